@@ -1,0 +1,13 @@
+//! The ground of the server: keys, values, requests, replies, the traits of the outside, and the definitions of
+//! the machine in `specs/`.
+#![tactic(auto)]
+
+mod faults;
+mod keys;
+mod seqs;
+mod values;
+
+pub use faults::{Failed, NoMemory};
+pub use keys::{Key, KeyFault, KeyRef};
+pub use seqs::Seq;
+pub use values::Value;
