@@ -1,2 +1,3 @@
-pub mod Key
 pub mod Growth
+pub mod Key
+pub mod Places

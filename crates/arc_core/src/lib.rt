@@ -2,11 +2,13 @@
 //! the machine in `specs/`.
 #![tactic(auto)]
 
+mod collections;
 mod faults;
 mod keys;
 mod seqs;
 mod values;
 
+pub use collections::{Action, IndexRange, Side};
 pub use faults::{Failed, NoMemory};
 pub use keys::{Key, KeyFault, KeyRef};
 pub use seqs::Seq;
