@@ -1,3 +1,5 @@
+pub mod Framing
 pub mod Growth
 pub mod Key
+pub mod Outside
 pub mod Places

@@ -5,11 +5,13 @@
 mod collections;
 mod faults;
 mod keys;
+mod outside;
 mod seqs;
 mod values;
 
 pub use collections::{Action, IndexRange, Side};
 pub use faults::{Failed, NoMemory};
 pub use keys::{Key, KeyFault, KeyRef};
+pub use outside::{Clock, Heads, Link, Need, Pull, Push, Sink, Source};
 pub use seqs::Seq;
 pub use values::Value;
