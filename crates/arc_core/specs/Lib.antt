@@ -1,5 +1,12 @@
 pub mod Framing
+pub mod Grammar
 pub mod Growth
 pub mod Key
+pub mod KeyValueGrammar
 pub mod Outside
 pub mod Places
+pub mod PlainRequest
+pub mod Room
+pub mod Rows
+pub mod Words
+pub mod WorkedRows

@@ -4,14 +4,22 @@
 
 mod collections;
 mod faults;
+mod items;
 mod keys;
 mod outside;
+mod replies;
+mod requests;
 mod seqs;
 mod values;
+mod word_lists;
 
 pub use collections::{Action, IndexRange, Side};
 pub use faults::{Failed, NoMemory};
+pub use items::Expiry;
 pub use keys::{Key, KeyFault, KeyRef};
 pub use outside::{Clock, Heads, Link, Need, Pull, Push, Sink, Source};
+pub use replies::{Reply, ValueRow, Word};
+pub use requests::{Act, Answer, Request, StoreVerb};
 pub use seqs::Seq;
 pub use values::Value;
+pub use word_lists::KeyWords;

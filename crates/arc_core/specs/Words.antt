@@ -1,0 +1,38 @@
+-- Words of a line or block, and what single words spell. (The memcached protocol separates words by a space.)
+use Rattle.std.specs.Prelude.{◌≡◌, ◌==◌, ◌&&◌, ℕ, ◌+◌, ◌-◌, ◌*◌, nat_lt, nat_le, if◌then◌else◌, Bool, List, [], ◌∷◌, length, drop, filter, fold, slice_index, is_none, All, Option, Some, None}
+use Rattle.std.specs.List.{slice_split, list_all}
+use Rattle.std.specs.Char.{is_ascii_digit}
+use Rattle.arc_core.specs.Key.{key_fault, IsKey}
+
+-- the longest runs of bytes other than the space
+abbrev pub words : List ℕ → List (List ℕ)
+words text = filter (λ word. nat_lt 0 (length word)) (slice_split (λ b. b == 32) text)
+
+-- the number that decimal digits spell
+abbrev pub number_of : List ℕ → ℕ
+number_of digits = fold (λ n digit. 10 * n + (digit - 48)) 0 digits
+
+-- 1 to 20 decimal digits
+abbrev pub is_numeral : List ℕ → Bool
+is_numeral word = nat_lt 0 (length word) && nat_le (length word) 20 && list_all is_ascii_digit word
+
+-- a number below the bound; leading zeros are allowed, and only the value counts
+unfoldable pub number_below : ℕ → List ℕ → Option ℕ
+number_below bound word = if is_numeral word && nat_lt (number_of word) bound then Some (number_of word) else None
+
+-- the word less a minus sign in front
+abbrev pub without_minus : List ℕ → List ℕ
+without_minus word = if slice_index word 0 == 45 then drop 1 word else word
+
+-- a key
+unfoldable pub key_word : List ℕ → Option (List ℕ)
+key_word word = if is_none (key_fault word) then Some word else None
+
+-- keys and nothing else
+abbrev pub AreKeys : List (List ℕ) → Type 0
+AreKeys list = All IsKey list
+
+-- the words, where there are 1 to so many of them and each is a key
+unfoldable pub keys_up_to : ℕ → List (List ℕ) → Option (List (List ℕ))
+keys_up_to most list =
+    if nat_lt 0 (length list) && nat_le (length list) most && list_all (λ word. is_none (key_fault word)) list then Some list else None
