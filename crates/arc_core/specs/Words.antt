@@ -1,5 +1,5 @@
 -- Words of a line or block, and what single words spell. (The memcached protocol separates words by a space.)
-use Rattle.std.specs.Prelude.{◌≡◌, ◌==◌, ◌&&◌, ℕ, ◌+◌, ◌-◌, ◌*◌, nat_lt, nat_le, if◌then◌else◌, Bool, List, [], ◌∷◌, length, drop, filter, fold, slice_index, is_none, All, Option, Some, None}
+use Rattle.std.specs.Prelude.{◌==◌, ◌&&◌, ℕ, ◌+◌, ◌-◌, ◌*◌, nat_lt, nat_le, if◌then◌else◌, Bool, List, length, drop, filter, fold, slice_index, is_none, All, Option, Some, None}
 use Rattle.std.specs.List.{slice_split, list_all}
 use Rattle.std.specs.Char.{is_ascii_digit}
 use Rattle.arc_core.specs.Key.{key_fault, IsKey}
