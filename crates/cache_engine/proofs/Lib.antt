@@ -1,0 +1,5 @@
+pub mod HeldItems
+pub mod LookUps
+pub mod NoneSticky
+pub mod Puts
+pub mod Stores
