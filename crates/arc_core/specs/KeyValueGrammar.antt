@@ -1,12 +1,12 @@
 -- The rows of the key-value commands (memcached's text protocol, "Storage commands" and "Retrieval command";
 -- ARCUS's key-value commands).
-use Rattle.std.specs.Prelude.{ℕ, ◌^◌, Bool, true, false, List, Option, Some, None, ℤ, pos}
+use Rattle.std.specs.Prelude.{ℕ, ◌^◌, Bool, false, List, Option, ℤ, pos}
 use Rattle.std.specs.Option.{option_map}
 use Rattle.arc_core.specs.declared.requests.Answer.{Answer}
 use Rattle.arc_core.specs.declared.requests.Answer.TheVariants as answer
 use Rattle.arc_core.specs.declared.requests.StoreVerb.{StoreVerb}
 use Rattle.arc_core.specs.declared.requests.StoreVerb.TheVariants as verb
-use Rattle.arc_core.specs.Rows.{Part, Row, one, all_left, gives, ◌>>=◌}
+use Rattle.arc_core.specs.Rows.{Row, one, all_left, gives, ◌>>=◌}
 use Rattle.arc_core.specs.Words.{key_word, keys_up_to, number_below, without_minus}
 
 -- A command as its line spells it: a request, less the block.

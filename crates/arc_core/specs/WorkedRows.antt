@@ -1,9 +1,9 @@
 -- Worked examples that compute.
-use Rattle.std.specs.Prelude.{◌≡◌, List, [], ◌∷◌, codes, refl, false, None, Some, pos}
+use Rattle.std.specs.Prelude.{◌≡◌, [], ◌∷◌, codes, refl, false, None, Some, pos}
 use Rattle.arc_core.specs.declared.outside.Need.TheVariants as need
 use Rattle.arc_core.specs.declared.requests.Answer.TheVariants as answer
 use Rattle.arc_core.specs.declared.requests.StoreVerb.TheVariants as verb
-use Rattle.arc_core.specs.Words.{words, number_below, key_word, keys_up_to, without_minus}
+use Rattle.arc_core.specs.Words.{words, number_below, key_word, keys_up_to}
 use Rattle.arc_core.specs.KeyValueGrammar.{store, get, set_row, get_row, zero_exptime}
 use Rattle.arc_core.specs.Grammar.{head_of, line_needs, command_of}
 
