@@ -54,6 +54,13 @@ impl<'a> WordIter<'a> {
     {
         WordIter { text }
     }
+
+    /// A text that has the words that are left, and no other.
+    pub fn text(&self) -> &'a [u8]
+        ensures { words result.now ≡ self.now }
+    {
+        self.text
+    }
 }
 
 impl<'a> Iterator for WordIter<'a> {
