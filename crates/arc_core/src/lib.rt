@@ -28,4 +28,4 @@ pub use replies::{Reply, ValueRow, Word};
 pub use requests::{Act, Answer, Request, StoreVerb};
 pub use seqs::Seq;
 pub use values::Value;
-pub use word_lists::KeyWords;
+pub use word_lists::{KeyIter, KeyWords, WordIter, first_word};
