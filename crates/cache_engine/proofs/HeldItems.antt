@@ -1,10 +1,13 @@
 -- Held items, and the shelf that they are.
-use Rattle.std.proofs.Common.{◌≡◌, ◌+◌, ◌≤◌, ℕ, zero, suc, List, [], ◌∷◌, length, Option, Some, None, Bool, true, false, cond, refl, sym, ap, ◌∙◌, arith, subst, take, set, get_or}
+use Rattle.std.proofs.Common.{◌≡◌, ℕ, zero, suc, List, [], ◌∷◌, length, Option, Some, None, true, false, refl, sym, ap, ◌∙◌, take, set, get_or, Bor}
 use Rattle.std.specs.Prelude.{bytes_eq, slice_get}
 use Rattle.std.specs.List.{AllByRecursion}
+use Rattle.std.specs.Option.{option_map, IsSome}
+use Rattle.std.proofs.lemmas.Bool.{false≢true}
+use Rattle.std.specs.Slice.{IsGetResult}
 use Rattle.std.proofs.lemmas.Option.{slice_get-get_or, slice_get_within}
 use Rattle.std.specs.Map.{lookup, set_value, keys_of}
-use Rattle.arc_core.specs.Item.{Item, IsItem, size_of}
+use Rattle.arc_core.specs.Item.{size_of}
 use Rattle.cache_engine.specs.declared.held.Held.{Held}
 use Rattle.cache_engine.specs.Held.{item_of, shelf_of, IsPlaceOf}
 use Rattle.cache_engine.proofs.LookUps.{same_key}
@@ -64,3 +67,8 @@ size_there key all place y is read =
 pub length_shelf : (all : List Held) → length (shelf_of all) ≡ length all
 length_shelf [] = refl
 length_shelf (held ∷ all) = ap suc (length_shelf all)
+
+-- what `get` gives at a place is what stands there
+pub got_there : (all : List Held) (place : ℕ) (held : Held) (r : Option (Bor Held)) → slice_get all place ≡ Some held → IsGetResult all place place r → option_map (λ (h : Bor Held). item_of h.now) r ≡ Some (item_of held)
+got_there all place held None stands got = let is : IsSome {T = Bor Held} None = got.2 (slice_get_within all place held stands) in absurd (false≢true is)
+got_there all place held (Some x) stands got = ap (λ h. Some (item_of h)) (read_there all place held x.now stands got.1)

@@ -3,3 +3,5 @@ pub mod LookUps
 pub mod NoneSticky
 pub mod Puts
 pub mod Stores
+pub mod Rows
+pub mod Texts

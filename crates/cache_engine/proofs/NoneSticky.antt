@@ -1,14 +1,13 @@
 -- A state in which no item is sticky is its shelf.
-use Rattle.std.proofs.Common.{◌≡◌, ◌+◌, ◌-◌, ◌≤◌, ◌<◌, ℕ, List, [], ◌∷◌, length, Option, Some, None, Bool, true, false, cond, refl, sym, ap, ◌∙◌, arith, subst}
-use Rattle.std.specs.Prelude.{bytes_eq, nat_le, ◌-ℤ◌, pos, sum_by}
+use Rattle.std.proofs.Common.{◌≡◌, ◌+◌, ◌-◌, ℕ, List, [], ◌∷◌, length, Option, Some, None, Bool, true, false, cond, refl, sym, ap, ◌∙◌, arith}
+use Rattle.std.specs.Prelude.{bytes_eq}
 use Rattle.std.specs.Option.{option_or}
 use Rattle.std.specs.Map.{lookup}
 use Rattle.std.specs.Ordering.{nat_cmp}
 use Rattle.std.specs.Cmp.Lexicographic.{slice_cmp, nat_list_cmp_total}
 use Rattle.std.specs.FinMap as finite
-use Rattle.std.specs.FinMap.{FinMap}
 use Rattle.arc_core.specs.Item.{Item, size_of}
-use Rattle.arc_core.specs.Places.{found, total_of, weight_of, count_of}
+use Rattle.arc_core.specs.Places.{found, weight_of, count_of}
 use Rattle.arc_core.specs.CacheState.{accounted}
 use Rattle.cache_engine.specs.Held.{state_at}
 

@@ -1,14 +1,13 @@
 -- What is counted after an item was put on the shelf.
-use Rattle.std.proofs.Common.{◌≡◌, ◌+◌, ◌-◌, ◌≤◌, ◌<◌, ℕ, List, [], ◌∷◌, length, Option, Some, None, Bool, true, false, cond, refl, sym, ap, ◌∙◌, arith, subst}
+use Rattle.std.proofs.Common.{◌≡◌, ◌+◌, ◌≤◌, ℕ, List, [], ◌∷◌, length, Some, None, false, cond, refl, sym, ap, ◌∙◌, arith, subst}
 use Rattle.std.specs.Prelude.{bytes_eq, is_some}
 use Rattle.std.specs.Option.{option_map_or}
 use Rattle.std.specs.List.{AllByRecursion, IsDistinct}
 use Rattle.std.specs.Map.{lookup, set_value, keys_of}
 use Rattle.std.proofs.lemmas.List.Sums.{sum_by-cons}
 use Rattle.std.proofs.lemmas.Bool.Decides.{nat_tests}
-use Rattle.arc_core.specs.Key.{IsKey, key_fault}
+use Rattle.arc_core.specs.Key.{IsKey}
 use Rattle.arc_core.specs.Item.{Item, IsItem, size_of}
-use Rattle.arc_core.specs.Places.{weight_of, shelved}
 use Rattle.cache_engine.specs.Held.{IsCounted, IsPut, old_size}
 use Rattle.cache_engine.proofs.LookUps.{weight_put, items_put, once_put, once_more}
 

@@ -1,20 +1,18 @@
 -- The step of a storing command, where no item is sticky.
-use Rattle.std.proofs.Common.{◌≡◌, ◌+◌, ◌-◌, ◌≤◌, ◌<◌, ℕ, suc, List, [], ◌∷◌, length, Option, Some, None, Bool, true, false, cond, refl, sym, ap, ◌∙◌, arith, subst, max, inl, inr}
-use Rattle.std.specs.Prelude.{bytes_eq, nat_le, ℤ, pos, negsuc, ◌+ℤ◌, ◌-ℤ◌}
-use Rattle.std.specs.Map.{lookup, set_value}
+use Rattle.std.proofs.Common.{◌≡◌, ◌+◌, ◌≤◌, ◌<◌, ℕ, List, length, true, false, refl, sym, ap, ◌∙◌, arith, subst, max, inl}
+use Rattle.std.specs.Prelude.{ℤ, pos, negsuc, ◌+ℤ◌, ◌-ℤ◌}
 use Rattle.std.specs.Option.{option_map_or}
 use Rattle.std.proofs.lemmas.Bool.Decides.{nat_tests}
 use Rattle.std.proofs.lemmas.Int.{ints}
-use Rattle.std.specs.FinMap as finite
 use Rattle.arc_core.specs.declared.replies.Reply.{Reply}
 use Rattle.arc_core.specs.declared.replies.Reply.TheVariants as reply
 use Rattle.arc_core.specs.declared.replies.Word.TheVariants as word
 use Rattle.arc_core.specs.declared.items.Expiry.TheVariants as expiry
 use Rattle.arc_core.specs.Item.{Item, key_value, size_of}
-use Rattle.arc_core.specs.Places.{weight_of, found, placed, shelved}
+use Rattle.arc_core.specs.Places.{weight_of, shelved}
 use Rattle.arc_core.specs.Room.{fits}
-use Rattle.arc_core.specs.CacheState.{CacheState, accounted}
-use Rattle.arc_core.specs.Step.{put, plan_of_store, carried_out, has_room, stored, extra_of, next_unique}
+use Rattle.arc_core.specs.CacheState.{accounted}
+use Rattle.arc_core.specs.Step.{put, carried_out, has_room, stored, extra_of, next_unique}
 use Rattle.cache_engine.specs.Held.{state_at, old_size, Stores, IsPut}
 use Rattle.cache_engine.proofs.NoneSticky.{accounted_at, found_at, none_removed}
 
@@ -58,12 +56,12 @@ pub stores : (shelf shelf' : List (List ℕ × Item)) (latest latest' counter co
 stores shelf shelf' latest latest' counter counter' limit total now flags key value value' is next same later =
     let item = key_value flags expiry.Never (next_unique counter) value in
     let is_put : IsPut key item limit shelf shelf' total =
-      subst (λ v. IsPut key (key_value flags expiry.Never (next_unique counter) v) limit shelf shelf' total) same
-      (subst (λ u. IsPut key (key_value flags expiry.Never u value') limit shelf shelf' total) next is) in
+    subst (λ v. IsPut key (key_value flags expiry.Never (next_unique counter) v) limit shelf shelf' total) same
+    (subst (λ u. IsPut key (key_value flags expiry.Never u value') limit shelf shelf' total) next is) in
     inl (puts shelf (max latest now) counter limit key item (reply.Word word.Stored) is_put.fits
-      ∙ ap (λ s. (state_at s (max latest now) (next_unique counter) limit, reply.Word word.Stored)) (sym is_put.shelf)
-      ∙ ap (λ l. (state_at shelf' l (next_unique counter) limit, reply.Word word.Stored)) (sym later)
-      ∙ ap (λ u. (state_at shelf' latest' u limit, reply.Word word.Stored)) (sym next))
+    ∙ ap (λ s. (state_at s (max latest now) (next_unique counter) limit, reply.Word word.Stored)) (sym is_put.shelf)
+    ∙ ap (λ l. (state_at shelf' l (next_unique counter) limit, reply.Word word.Stored)) (sym later)
+    ∙ ap (λ u. (state_at shelf' latest' u limit, reply.Word word.Stored)) (sym next))
 
 -- a value for which there is no room is answered so
 pub stores_nothing : (shelf shelf' : List (List ℕ × Item)) (latest latest' counter unique limit now flags : ℕ) (key value value' : List ℕ)
@@ -72,5 +70,5 @@ pub stores_nothing : (shelf shelf' : List (List ℕ × Item)) (latest latest' co
 stores_nothing shelf shelf' latest latest' counter unique limit now flags key value value' over same_shelf same later =
     let item = key_value flags expiry.Never (next_unique counter) value in
     inl (refuses shelf (max latest now) counter limit key item (reply.Word word.Stored) (omega (arith, over, ap length same))
-      ∙ ap (λ s. (state_at s (max latest now) counter limit, reply.Word word.OutOfMemory)) (sym same_shelf)
-      ∙ ap (λ l. (state_at shelf' l counter limit, reply.Word word.OutOfMemory)) (sym later))
+    ∙ ap (λ s. (state_at s (max latest now) counter limit, reply.Word word.OutOfMemory)) (sym same_shelf)
+    ∙ ap (λ l. (state_at shelf' l counter limit, reply.Word word.OutOfMemory)) (sym later))

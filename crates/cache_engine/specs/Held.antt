@@ -1,5 +1,5 @@
 -- The items that the cache holds, as the machine's state.
-use Rattle.std.specs.Prelude.{◌≡◌, ◌⊎◌, ℕ, ◌+◌, ◌<◌, ◌≤◌, max, List, length, map, bytes_eq, Option, Some, None, true, false, take, slice_get}
+use Rattle.std.specs.Prelude.{◌≡◌, ◌⊎◌, ℕ, Bool, ◌+◌, ◌<◌, ◌≤◌, max, List, map, bytes_eq, Option, Some, None, true, false, take, slice_get}
 use Rattle.std.specs.List.{AllByRecursion, IsDistinct}
 use Rattle.std.specs.Map.{keys_of, lookup}
 use Rattle.std.specs.Option.{option_map_or}
@@ -7,7 +7,7 @@ use Rattle.std.specs.FinMap as finite
 use Rattle.arc_core.specs.Item.{Item, key_value, IsItem, size_of}
 use Rattle.arc_core.specs.Places.{Places, weight_of, shelved}
 use Rattle.arc_core.specs.CacheState.{CacheState}
-use Rattle.arc_core.specs.Step.{carried_out, plan_of_store}
+use Rattle.arc_core.specs.Step.{carried_out, plan_of_store, rows_of}
 use Rattle.arc_core.specs.declared.items.Expiry.TheVariants as expiry
 use Rattle.arc_core.specs.declared.replies.Reply.{Reply}
 use Rattle.arc_core.specs.declared.replies.Reply.TheVariants as reply
@@ -24,10 +24,14 @@ item_of held = key_value held.flags held.expiry held.unique held.value
 abbrev pub shelf_of : List Held → List (List ℕ × Item)
 shelf_of all = map (λ held. (held.key, item_of held)) all
 
+-- places of which none is sticky
+abbrev pub places_at : List (List ℕ × Item) → ℕ → Places Item
+places_at shelf limit = record { shelf = shelf; sticky = finite.empty; limit = limit }
+
 -- a state in which no item is sticky
 abbrev pub state_at : List (List ℕ × Item) → ℕ → ℕ → ℕ → CacheState
 state_at shelf latest counter limit =
-    record { latest = latest; counter = counter; places = record { shelf = shelf; sticky = finite.empty; limit = limit } }
+    record { latest = latest; counter = counter; places = places_at shelf limit }
 
 -- The number is the sum of the stated sizes, and within the limit. The items keep their rules, and no key is held twice.
 pub record IsCounted (total limit : ℕ) (shelf : List (List ℕ × Item)) : Type 0 where
@@ -56,6 +60,12 @@ refilled held flags unique value = record held { flags = flags; expiry = expiry.
 abbrev pub Stores : CacheState → ℕ → List ℕ → ℕ → List ℕ → Reply → CacheState → Type 0
 Stores old now key flags value answer new =
     (let state = record old { latest = max old.latest now } in carried_out state key (plan_of_store state flags value) ≡ (new, answer))
+    ⊎ ((answer ≡ reply.Word word.NoMemory) × (new ≡ old))
+
+-- The items under the keys are answered by the machine's rules, or memory was refused and nothing has changed.
+abbrev pub Retrieves : CacheState → ℕ → List (List ℕ) → Bool → Reply → CacheState → Type 0
+Retrieves old now keys unique answer new =
+    ((answer ≡ reply.Values (rows_of unique old.places keys)) × (new ≡ record old { latest = max old.latest now }))
     ⊎ ((answer ≡ reply.Word word.NoMemory) × (new ≡ old))
 
 -- how many bytes the item under the key takes, or 0 where there is none

@@ -1,14 +1,16 @@
 //! The cache: the machine's state in memory.
-ghost use Rattle.std.specs.Prelude.{◌≡◌, ◌+◌, ◌*◌, ◌<◌, ◌≤◌, ℕ, length, IfOk, ℤ};
+ghost use Rattle.std.specs.Prelude.{◌≡◌, ◌+◌, ◌*◌, ◌^◌, ◌<◌, ◌≤◌, ℕ, length, IfOk, ℤ};
 ghost use Rattle.arc_core.specs.CacheState.{CacheState, opening_state, accounted};
 ghost use Rattle.arc_core.specs.Places.{count_of};
 ghost use Rattle.arc_core.specs.Step.{next_unique};
-ghost use Rattle.cache_engine.specs.Held.{Stores};
+ghost use Rattle.arc_core.specs.ReplyText.{reply_text};
+ghost use Rattle.cache_engine.specs.Held.{Retrieves, Stores};
 
 use crate::held::Held;
+use crate::retrieval::rows_under;
 use crate::settings::Settings;
 use crate::shelf::{Fill, Put, put_item};
-use arc_core::{KeyRef, NoMemory, Reply, Value, Word};
+use arc_core::{Act, Executor, KeyRef, KeyWords, NoMemory, Reply, Request, StoreVerb, Value, Word};
 use std::alloc::Global;
 use std::marker::Model;
 
@@ -99,6 +101,20 @@ impl Cache {
             Put::NoMemory => Reply::Word(Word::NoMemory),
         }
     }
+
+    // Answers the items under the keys.
+    fn retrieve(&mut self, now: u32, keys: &KeyWords<'_>, unique: bool) -> Reply
+        ensures answer { Retrieves self.old now keys.now unique result self.new }
+        ensures text { length (reply_text result) < 2 ^ 64 }
+    {
+        match rows_under(self.alloc, &self.all, keys, unique) {
+            Ok(rows) => {
+                self.latest = self.latest.max(now);
+                Reply::Values(rows)
+            }
+            Err(_) => Reply::Word(Word::NoMemory),
+        }
+    }
 }
 
 // The value of the cas counter after this one: it begins again at 1.
@@ -106,4 +122,21 @@ fn next(counter: u64) -> u64
     ensures { result ≡ next_unique counter }
 {
     if counter == u64::MAX { 1 } else { counter + 1 }
+}
+
+impl Executor for Cache {
+    ghost state = { λ cache. cache };
+
+    fn execute(&mut self, now: u32, request: &Request<'_>) -> Reply {
+        match &request.act {
+            Act::Store {
+                verb: StoreVerb::Set,
+                key,
+                flags,
+                exptime: _,
+                value,
+            } => self.store(now, key, *flags, value),
+            Act::Get { keys, unique } => self.retrieve(now, keys, *unique),
+        }
+    }
 }

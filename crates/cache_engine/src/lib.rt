@@ -3,6 +3,7 @@
 
 mod cache;
 mod held;
+mod retrieval;
 mod settings;
 mod shelf;
 

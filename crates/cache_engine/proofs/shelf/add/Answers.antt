@@ -1,7 +1,7 @@
 use Rattle.std.proofs.Common.{◌≡◌, ◌∷◌, ◌∙◌, ◌+◌, length, refl, ap, arith}
 use Rattle.arc_core.specs.Item.{key_value}
 use Rattle.arc_core.specs.declared.items.Expiry.TheVariants as expiry
-use Rattle.cache_engine.specs.Held.{shelf_of, old_size}
+use Rattle.cache_engine.specs.Held.{shelf_of}
 use Rattle.cache_engine.proofs.HeldItems.{none_found, key_is_new}
 use Rattle.cache_engine.proofs.Puts.{added, none_under}
 use Rattle.cache_engine.proofs.shelf.add.Goals as goal

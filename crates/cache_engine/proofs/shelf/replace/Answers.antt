@@ -1,8 +1,8 @@
-use Rattle.std.proofs.Common.{◌≡◌, ◌∷◌, ◌∙◌, ◌+◌, ◌-◌, ◌≤◌, length, refl, sym, ap, arith}
+use Rattle.std.proofs.Common.{◌≡◌, ◌∙◌, ◌+◌, ◌-◌, length, refl, ap, arith}
 use Rattle.std.proofs.lemmas.Option.{slice_get_within}
-use Rattle.arc_core.specs.Item.{key_value, size_of}
+use Rattle.arc_core.specs.Item.{key_value}
 use Rattle.arc_core.specs.declared.items.Expiry.TheVariants as expiry
-use Rattle.cache_engine.specs.Held.{shelf_of, old_size, item_of, refilled}
+use Rattle.cache_engine.specs.Held.{shelf_of, item_of, refilled}
 use Rattle.cache_engine.proofs.HeldItems.{found_there, size_there, set_there}
 use Rattle.cache_engine.proofs.LookUps.{size_within}
 use Rattle.cache_engine.proofs.Puts.{replaced, one_under}

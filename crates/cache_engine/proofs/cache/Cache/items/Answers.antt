@@ -1,7 +1,7 @@
 use Rattle.std.proofs.Common.{◌≡◌, ◌∙◌, sym, subst, length, arith}
 use Rattle.cache_engine.proofs.HeldItems.{length_shelf}
 use Rattle.arc_core.specs.Places.{count_of}
-use Rattle.cache_engine.specs.Held.{shelf_of, item_of}
+use Rattle.cache_engine.specs.Held.{shelf_of}
 use Rattle.cache_engine.proofs.NoneSticky.{count_at}
 use Rattle.cache_engine.proofs.cache.Cache.items.Goals as goal
 

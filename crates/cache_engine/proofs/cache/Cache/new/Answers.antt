@@ -1,4 +1,4 @@
-use Rattle.std.proofs.Common.{◌≡◌, ◌∙◌, ap, sym, subst, zero-le}
+use Rattle.std.proofs.Common.{sym, subst}
 use Rattle.cache_engine.specs.Held.{shelf_of, IsCounted}
 use Rattle.cache_engine.proofs.Puts.{nothing_counted}
 use Rattle.cache_engine.proofs.cache.Cache.new.Goals as goal
