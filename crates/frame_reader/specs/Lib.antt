@@ -1,3 +1,4 @@
 pub mod Progress
 pub mod Buffers
 pub mod Units
+pub mod Cutting
