@@ -1,5 +1,5 @@
 -- The units of a stream are determined by its bytes, but for want of memory.
-use Rattle.std.proofs.Common.{◌≡◌, ◌≢◌, ℕ, ◌+◌, ◌-◌, ◌<◌, ◌≤◌, ◌⊎◌, inl, inr, ⊎_elim, List, [], ◌∷◌, ◌++◌, length, take, drop, get_or, All, refl, sym, ap, ◌∙◌, subst, append_assoc, length-append, arith}
+use Rattle.std.proofs.Common.{◌≡◌, ◌≢◌, ℕ, ◌+◌, ◌<◌, ◌≤◌, ◌⊎◌, inl, inr, ⊎_elim, List, [], ◌∷◌, ◌++◌, length, take, drop, get_or, refl, sym, ap, ◌∙◌, subst, append_assoc, length-append, arith}
 use Rattle.std.specs.List.{AllZip}
 use Rattle.std.proofs.lemmas.List.{append_cancel_right, take_at, drop_at, get_or_at, get_or_append_left, append-nil}
 use Rattle.std.proofs.lemmas.List.Elements.{All-head, All-tail}
@@ -21,9 +21,10 @@ first_lf (c ∷ a) (d ∷ b) x y in_a in_b e =
 
 -- Fronts of one length are determined.
 same_fronts : (a b x y : List ℕ) → length a ≡ length b → a ++ x ≡ b ++ y → (a ≡ b) × (x ≡ y)
-same_fronts a b x y long e =
-    (sym (take_at a x (length a) refl) ∙ ap (take (length a)) e ∙ take_at b y (length a) (sym long),
-     sym (drop_at a x (length a) refl) ∙ ap (drop (length a)) e ∙ drop_at b y (length a) (sym long))
+same_fronts a b x y long e = (
+  sym (take_at a x (length a) refl) ∙ ap (take (length a)) e ∙ take_at b y (length a) (sym long),
+  sym (drop_at a x (length a) refl) ∙ ap (drop (length a)) e ∙ drop_at b y (length a) (sym long),
+)
 
 -- An LF stands among the first bytes.
 no_lf_before : (span more body after : List ℕ) → HasNoLf span → length body < length span → span ++ more ≡ body ++ 10 ∷ after → ⊥
@@ -99,16 +100,26 @@ record Parsed (needs : List ℕ → Need) (span : List ℕ) (unit : Whole) : Typ
 parsed_line : (needs : List ℕ → Need) (span text : List ℕ) → IsSpan needs span (whole.line text) → Parsed needs span (whole.line text)
 unfolding Judged
 parsed_line needs span text of = record {
-  body = of.0.body; text = text; chunk = []; is = of.0.ends; no_lf = of.0.no_lf; fits = of.0.fits; reads = of.0.reads;
+  body = of.0.body;
+  text = text;
+  chunk = [];
+  is = of.0.ends;
+  no_lf = of.0.no_lf;
+  fits = of.0.fits;
+  reads = of.0.reads;
   judged = subst (λ asked. Judged asked text [] (whole.line text)) (sym of.1) (refl, refl);
 }
 
 parsed_chunk : (needs : List ℕ → Need) (span text chunk : List ℕ) (len limit : ℕ) (unit : Whole) → IsLineThen needs span text len limit chunk → Judged (need.Block len limit) text chunk unit → Parsed needs span unit
 parsed_chunk needs span text chunk len limit unit then judged =
     let line = then.is_line in record {
-      body = line.body; text = text; chunk = chunk;
+      body = line.body;
+      text = text;
+      chunk = chunk;
       is = then.whole ∙ ap (λ b. b ++ chunk) line.ends ∙ append_assoc line.body (10 ∷ []) chunk;
-      no_lf = line.no_lf; fits = line.fits; reads = line.reads;
+      no_lf = line.no_lf;
+      fits = line.fits;
+      reads = line.reads;
       judged = subst (λ asked. Judged asked text chunk unit) (sym then.asks) judged;
     }
 
@@ -126,13 +137,13 @@ pub spans_agree : (needs : List ℕ → Need) (span span' more more' : List ℕ)
 spans_agree needs span span' more more' unit unit' e of of' =
     ⊎_elim
     (λ long. ⊎_elim
-      (λ long'. (inl (long.0 ∙ sym long'.0), (same_fronts span span' more more' (long.1 ∙ sym long'.1) e).1))
-      (λ p. absurd (too_long_and_line span more span' more' unit' long p e))
-      (parsed needs span' unit' of'))
+    (λ long'. (inl (long.0 ∙ sym long'.0), (same_fronts span span' more more' (long.1 ∙ sym long'.1) e).1))
+    (λ p. absurd (too_long_and_line span more span' more' unit' long p e))
+    (parsed needs span' unit' of'))
     (λ p. ⊎_elim
-      (λ long'. absurd (too_long_and_line span' more' span more unit long' p (sym e)))
-      (λ q. both_lines p q)
-      (parsed needs span' unit' of'))
+    (λ long'. absurd (too_long_and_line span' more' span more unit long' p (sym e)))
+    (λ q. both_lines p q)
+    (parsed needs span' unit' of'))
     (parsed needs span unit of)
   where
     too_long_and_line : (span more span' more' : List ℕ) (unit' : Whole) {A : Type 0} → A × (length span ≡ 65536) × HasNoLf span → Parsed needs span' unit' → span ++ more ≡ span' ++ more' → ⊥
@@ -142,7 +153,7 @@ spans_agree needs span span' more more' unit unit' e of of' =
     both_lines : Parsed needs span unit → Parsed needs span' unit' → Agree unit unit' × (more ≡ more')
     both_lines p q =
         let joined : p.body ++ 10 ∷ (p.chunk ++ more) ≡ q.body ++ 10 ∷ (q.chunk ++ more') =
-              sym (ap (λ b. b ++ more) p.is ∙ append_assoc p.body (10 ∷ p.chunk) more) ∙ e ∙ (ap (λ b. b ++ more') q.is ∙ append_assoc q.body (10 ∷ q.chunk) more') in
+        sym (ap (λ b. b ++ more) p.is ∙ append_assoc p.body (10 ∷ p.chunk) more) ∙ e ∙ (ap (λ b. b ++ more') q.is ∙ append_assoc q.body (10 ∷ q.chunk) more') in
         let lines = first_lf p.body q.body (p.chunk ++ more) (q.chunk ++ more') p.no_lf q.no_lf joined in
         let texts : p.text ≡ q.text = p.reads ∙ ap without_cr lines.0 ∙ sym q.reads in
         let judged = subst (λ text. Judged (needs text) text q.chunk unit') (sym texts) q.judged in
@@ -182,18 +193,18 @@ too_short len limit part chunk n long below is = omega (arith, long, below, is)
 pub rest_begins_with_none : (needs : List ℕ → Need) (bytes span more : List ℕ) (unit : Whole) → IsRest needs bytes → bytes ≡ span ++ more → IsSpan needs span unit → ⊥
 rest_begins_with_none needs bytes span more unit rest e of = ⊎_elim
     (λ line. ⊎_elim
-      (λ long. omega (arith, line.0, long.1, ap length e, length-append span more))
-      (λ p. no_lf_before bytes [] p.body (p.chunk ++ more) line.1 (short p) (append-nil bytes ∙ joined p))
-      (parsed needs span unit of))
+    (λ long. omega (arith, line.0, long.1, ap length e, length-append span more))
+    (λ p. no_lf_before bytes [] p.body (p.chunk ++ more) line.1 (short p) (append-nil bytes ∙ joined p))
+    (parsed needs span unit of))
     (λ block. ⊎_elim
-      (λ long. no_lf_before span more block.4.is_line.body block.3 long.2 (omega (arith, block.4.is_line.fits, long.1)) (sym e ∙ behind block.4))
-      (λ p.
-        let lines = first_lf block.4.is_line.body p.body block.3 (p.chunk ++ more) block.4.is_line.no_lf p.no_lf (sym (behind block.4) ∙ joined p) in
-        let texts : p.text ≡ block.0 = p.reads ∙ ap without_cr (sym lines.0) ∙ sym block.4.is_line.reads in
-        let asked : needs p.text ≡ need.Block block.1 block.2 = ap needs texts ∙ block.4.asks in
-        let long = Judged-length (needs p.text) p.text p.chunk unit p.judged ∙ ap asked_length asked in
-        too_short block.1 block.2 block.3 p.chunk (length more) long block.5 (ap length lines.1 ∙ length-append p.chunk more))
-      (parsed needs span unit of))
+    (λ long. no_lf_before span more block.4.is_line.body block.3 long.2 (omega (arith, block.4.is_line.fits, long.1)) (sym e ∙ behind block.4))
+    (λ p.
+    let lines = first_lf block.4.is_line.body p.body block.3 (p.chunk ++ more) block.4.is_line.no_lf p.no_lf (sym (behind block.4) ∙ joined p) in
+    let texts : p.text ≡ block.0 = p.reads ∙ ap without_cr (sym lines.0) ∙ sym block.4.is_line.reads in
+    let asked : needs p.text ≡ need.Block block.1 block.2 = ap needs texts ∙ block.4.asks in
+    let long = Judged-length (needs p.text) p.text p.chunk unit p.judged ∙ ap asked_length asked in
+    too_short block.1 block.2 block.3 p.chunk (length more) long block.5 (ap length lines.1 ∙ length-append p.chunk more))
+    (parsed needs span unit of))
     rest
   where
     joined : (p : Parsed needs span unit) → bytes ≡ p.body ++ 10 ∷ (p.chunk ++ more)
@@ -226,11 +237,11 @@ cuts_agree needs bytes units units' rest rest' cut cut' = go bytes units units' 
         let later = subst (λ more. BeginsWith needs more units' rest') (sym here.1) spans'.4 in
         ⊎_elim
         (λ last. ⊎_elim
-          (λ last'. ((here.0, no_more units units' last.1 last'.1), sym (only_tail spans.1 units rest last.1 spans.4) ∙ only_tail spans.1 units' rest' last'.1 later))
-          (λ on'. absurd (on'.0 (Agree-too_long unit' (subst (λ u. Agree u unit') last.0 here.0))))
-          (behind_unit needs unit' units' rest' ends'))
+        (λ last'. ((here.0, no_more units units' last.1 last'.1), sym (only_tail spans.1 units rest last.1 spans.4) ∙ only_tail spans.1 units' rest' last'.1 later))
+        (λ on'. absurd (on'.0 (Agree-too_long unit' (subst (λ u. Agree u unit') last.0 here.0))))
+        (behind_unit needs unit' units' rest' ends'))
         (λ on. ⊎_elim
-          (λ last'. absurd (on.0 (Agree-too_long unit (Agree-sym unit whole.line_too_long (subst (λ u. Agree unit u) last'.0 here.0)))))
-          (λ on'. let tail = go spans.1 units units' spans.4 later on.1 on'.1 in ((here.0, tail.0), tail.1))
-          (behind_unit needs unit' units' rest' ends'))
+        (λ last'. absurd (on.0 (Agree-too_long unit (Agree-sym unit whole.line_too_long (subst (λ u. Agree unit u) last'.0 here.0)))))
+        (λ on'. let tail = go spans.1 units units' spans.4 later on.1 on'.1 in ((here.0, tail.0), tail.1))
+        (behind_unit needs unit' units' rest' ends'))
         (behind_unit needs unit units rest ends)

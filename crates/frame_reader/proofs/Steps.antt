@@ -1,12 +1,12 @@
 -- What a reader stands for as it takes bytes, step by step.
-use Rattle.std.proofs.Common.{◌≡◌, ◌≢◌, ℕ, ◌+◌, ◌-◌, ◌<◌, ◌≤◌, ◌⊎◌, inl, inr, List, [], ◌∷◌, ◌++◌, length, take, drop, get_or, All, MatchOption, None, refl, sym, ap, ◌∙◌, subst, append_assoc, length-append, arith, rules}
-use Rattle.std.proofs.lemmas.List.{take-append-drop, take-take, length-take, drop-take, take_rest}
-use Rattle.std.proofs.lemmas.List.Elements.{All-append, All-same, All-nil}
+use Rattle.std.proofs.Common.{◌≡◌, ◌≢◌, ℕ, ◌+◌, ◌-◌, ◌<◌, ◌≤◌, inl, inr, List, [], ◌∷◌, ◌++◌, length, take, drop, MatchOption, None, refl, sym, ap, ◌∙◌, subst, append_assoc, length-append, arith}
+use Rattle.std.proofs.lemmas.List.{take-append-drop, take-take, length-take, drop-take}
+use Rattle.std.proofs.lemmas.List.Elements.{All-append}
 use Rattle.arc_core.specs.declared.outside.Need.{Need}
 use Rattle.arc_core.specs.declared.outside.Need.TheVariants as need
 use Rattle.arc_core.specs.Framing.{Whole, HasNoLf, without_cr, IsLine, IsLineThen, IsLineWithChunk, IsSpan, IsRest}
 use Rattle.arc_core.specs.Framing as whole
-use Rattle.frame_reader.specs.Progress.{Progress, in_line, in_block, passing_over, ready, ready_unit, IsLinePart, IsBodyThen, IsInBlock, IsInPassedBlock, IsPassedOver, StandsFor}
+use Rattle.frame_reader.specs.Progress.{Progress, in_line, in_block, passing_over, ready, ready_unit, IsLinePart, IsBodyThen, IsPassedOver, StandsFor}
 use Rattle.frame_reader.specs.Buffers.{progress_of}
 use Rattle.frame_reader.specs.declared.phases.Kind.{Kind}
 use Rattle.frame_reader.specs.declared.phases.Phase.{Phase}
@@ -122,10 +122,7 @@ passing_ends needs body bytes more passed left unit long stands =
     passed_is : (unit : Whole) (len limit : ℕ) (chunk : List ℕ) → IsLineThen needs (bytes ++ more) (without_cr body) len limit chunk → length chunk ≡ len + 2 → IsPassedOver (without_cr body) len limit unit → IsSpan needs (bytes ++ more) unit
     passed_is (whole.too_large text) len limit chunk behind whole cause = (len, limit, chunk, rw cause.0 behind, whole, cause.1)
     passed_is (whole.block_no_memory text) len limit chunk behind whole cause = (len, limit, chunk, rw cause.0 behind, whole, (cause.1, cause.2))
-    passed_is (whole.line text) len limit chunk behind whole cause = absurd cause
-    passed_is (whole.line_with_block text block) len limit chunk behind whole cause = absurd cause
-    passed_is (whole.bad_chunk text) len limit chunk behind whole cause = absurd cause
-    passed_is whole.line_too_long len limit chunk behind whole cause = absurd cause
+    passed_is unit len limit chunk behind whole cause = absurd cause
 
 -- No unit is ready in a phase that is not the last one.
 pub waits : (line block : List ℕ) (now : Phase) → ((of : Kind) → now ≡ phase.Ready of → ⊥) → None ≡ ready_unit (progress_of line block now)
@@ -151,3 +148,8 @@ pub taken_then : (bytes piece rest : List ℕ) (front more : ℕ) → rest ≡ d
 taken_then bytes piece rest front more is =
     append_assoc bytes (take front piece) (take more rest)
     ∙ ap (λ b. bytes ++ b) (rw (is, ← drop-take front more piece, ← take-take front (front + more) piece (omega arith)) (take-append-drop front (take (front + more) piece)))
+
+-- What a reader stands for where no unit is ready.
+pub rest_of : (needs : List ℕ → Need) (progress : Progress) → None ≡ ready_unit progress → (bytes : List ℕ) → StandsFor needs progress bytes → IsRest needs bytes
+rest_of needs progress none bytes stands =
+    subst (λ unit. MatchOption unit (IsRest needs bytes) (λ u. IsSpan needs bytes u)) (sym none) (span_of needs progress bytes stands)

@@ -1,5 +1,5 @@
 -- What the fields of a reader stand for.
-use Rattle.std.specs.Prelude.{◌≡◌, ℕ, ◌+◌, ◌<◌, ◌≤◌, List, length}
+use Rattle.std.specs.Prelude.{◌≡◌, ℕ, ◌+◌, ◌^◌, ◌<◌, ◌≤◌, List}
 use Rattle.arc_core.specs.Framing.{Whole, without_cr}
 use Rattle.arc_core.specs.Framing as whole
 use Rattle.frame_reader.specs.Progress.{Progress, in_line, in_block, passing_over, ready}
@@ -28,5 +28,5 @@ progress_of line block (phase.Ready kind) = ready (unit_of line block kind)
 abbrev pub LeavesRoom : ℕ → ℕ → Phase → Type 0
 LeavesRoom line block phase.InLine = (line < 65536) × (block ≡ 0)
 LeavesRoom line block (phase.InBlock len) = (line < 65536) × (block < len + 2) × (len + 2 ≤ 131072)
-LeavesRoom line block (phase.PassingOver passed left kind) = (line < 65536) × (0 < left) × (passed + left < 8589934592)
+LeavesRoom line block (phase.PassingOver passed left kind) = (line < 65536) × (0 < left) × (passed + left < 2 ^ 33)
 LeavesRoom line block (phase.Ready kind) = Unit {0}

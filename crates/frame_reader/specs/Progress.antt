@@ -38,10 +38,7 @@ pub record IsBodyThen (needs : List ℕ → Need) (bytes body : List ℕ) (len l
 abbrev pub IsPassedOver : List ℕ → ℕ → ℕ → Whole → Type 0
 IsPassedOver text len limit (whole.too_large text') = (text' ≡ text) × (limit < len)
 IsPassedOver text len limit (whole.block_no_memory text') = (text' ≡ text) × (len ≤ limit) × (131072 < len + 2)
-IsPassedOver text len limit (whole.line text') = ⊥
-IsPassedOver text len limit (whole.line_with_block text' block) = ⊥
-IsPassedOver text len limit (whole.bad_chunk text') = ⊥
-IsPassedOver text len limit whole.line_too_long = ⊥
+IsPassedOver text len limit unit = ⊥
 
 -- The bytes are a line with this body and a part of the block that it asks for, which is kept.
 pub record IsInBlock (needs : List ℕ → Need) (bytes body : List ℕ) (len : ℕ) (part : List ℕ) : Type 0 where

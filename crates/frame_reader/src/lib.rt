@@ -7,5 +7,9 @@ mod reader;
 mod turns;
 mod units;
 
+pub use laws::{any_bytes_are_cut, cuts_agree, rest_begins_with_no_unit};
 pub use reader::Frames;
 pub use units::Unit;
+
+#[cfg(test)]
+mod tests;

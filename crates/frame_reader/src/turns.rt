@@ -1,5 +1,5 @@
 //! What a reader does with a piece in each phase: it takes bytes from the front, and goes on to a phase.
-ghost use Rattle.std.specs.Prelude.{◌≡◌, ◌≢◌, ℕ, ◌+◌, ◌<◌, ◌≤◌, List, [], ◌∷◌, ◌++◌, length, take, drop, MatchOption, MatchBool, vec_len, vec_capacity};
+ghost use Rattle.std.specs.Prelude.{◌≡◌, ◌≢◌, ℕ, ◌+◌, ◌^◌, ◌<◌, ◌≤◌, List, [], ◌∷◌, ◌++◌, length, take, drop, MatchOption, MatchBool, vec_len, vec_capacity};
 ghost use Rattle.arc_core.specs.declared.outside.Need.{Need};
 ghost use Rattle.arc_core.specs.Framing as Framing;
 ghost use Rattle.arc_core.specs.Framing.{HasNoLf};
@@ -80,10 +80,18 @@ fn phase_behind(need: Need) -> Phase
     };
     let whole = u64::from(len) + 2;
     if len > limit {
-        return Phase::PassingOver { passed: 0, left: whole, kind: Kind::TooLarge };
+        return Phase::PassingOver {
+            passed: 0,
+            left: whole,
+            kind: Kind::TooLarge,
+        };
     }
     if whole > BLOCK_BYTES as u64 {
-        return Phase::PassingOver { passed: 0, left: whole, kind: Kind::BlockNoMemory };
+        return Phase::PassingOver {
+            passed: 0,
+            left: whole,
+            kind: Kind::BlockNoMemory,
+        };
     }
     Phase::InBlock { len: len as usize }
 }
@@ -123,7 +131,7 @@ fn ends_in_cr_lf(chunk: &[u8], len: usize) -> bool
 // Takes bytes of a block that is not kept.
 pub(crate) fn pass_over(passed: u64, left: u64, kind: Kind, piece: &[u8]) -> (usize, Phase)
     requires unfinished { 0 < left }
-    requires short { passed + left < 8589934592 }
+    requires short { passed + left < 2 ^ 33 }
     ensures within { result.0 ≤ length piece.now }
     ensures some { 0 < length piece.now → 0 < result.0 }
     ensures room { (line block : ℕ) → line < 65536 → LeavesRoom line block result.1 }
@@ -132,7 +140,11 @@ pub(crate) fn pass_over(passed: u64, left: u64, kind: Kind, piece: &[u8]) -> (us
 {
     let taken = (piece.len() as u64).min(left);
     let phase = if taken < left {
-        Phase::PassingOver { passed: passed + taken, left: left - taken, kind }
+        Phase::PassingOver {
+            passed: passed + taken,
+            left: left - taken,
+            kind,
+        }
     } else {
         Phase::Ready(kind)
     };

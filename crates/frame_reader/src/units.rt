@@ -1,7 +1,7 @@
 //! The units of a stream.
 
 /// What stands next in a stream. Each line is given without its LF and less one CR before it.
-#[derive(Clone, Copy)]
+#[derive(Clone, Copy, Debug, PartialEq, Eq)]
 pub enum Unit<'a> {
     /// No unit is whole yet.
     Wait,

@@ -1,4 +1,4 @@
-use Rattle.std.proofs.Common.{◌≡◌, ◌+◌, ◌<◌, length, take, refl, ap, sym, ◌∙◌, subst, arith, length-append, List, ℕ, [], ◌∷◌, ◌++◌}
+use Rattle.std.proofs.Common.{◌+◌, length, take, ap, sym, ◌∙◌, arith, length-append, ◌++◌}
 use Rattle.std.proofs.lemmas.List.{length-take-le}
 use Rattle.arc_core.specs.Framing.{without_cr}
 use Rattle.frame_reader.proofs.Steps.{line_ends, place_in_piece}

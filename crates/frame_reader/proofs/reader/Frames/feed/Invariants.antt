@@ -1,4 +1,4 @@
-use Rattle.std.proofs.Common.{length, ◌-◌, ◌≡◌, ℕ, ◌<◌, ◌≤◌, List, ◌++◌, take, None, IsSome}
+use Rattle.std.proofs.Common.{length, ◌-◌, ◌≡◌, ℕ, ◌≤◌, List, ◌++◌, take, IsSome}
 use Rattle.frame_reader.specs.Progress.{StandsFor, ready_unit}
 use Rattle.frame_reader.proofs.reader.Frames.feed.Given as goal
 
