@@ -1,5 +1,5 @@
 -- Where an insert at an index of a list puts its element, and what it trims (`lop insert` of the ARCUS protocol).
-use Rattle.std.specs.Prelude.{◌≡◌, ℕ, zero, suc, ◌-◌, ℤ, pos, negsuc, Bool, ◌==◌, nat_le, if◌then◌else◌, Option, Some, None, refl}
+use Rattle.std.specs.Prelude.{◌≡◌, ℕ, zero, ◌-◌, ℤ, pos, negsuc, Bool, ◌==◌, nat_le, if◌then◌else◌, Option, Some, None, refl}
 use Rattle.arc_core.specs.declared.collections.Action.{Action}
 use Rattle.arc_core.specs.declared.collections.Action.TheVariants as action
 use Rattle.arc_core.specs.declared.collections.Side.{Side}
@@ -55,3 +55,27 @@ plan_at index n maxcount action (Some place) =
 -- what an insert at an index does in a list of n elements
 abbrev pub insert_plan : ℤ → ℕ → ℕ → Action → ListPlan
 insert_plan index n maxcount action = plan_at index n maxcount action (insert_place index n)
+
+-- Worked: a list of five elements, full at five, that trims its tail.
+six_is_no_place : insert_plan (pos 6) 5 5 action.TailTrim ≡ OutOfRange (pos 6) 5
+six_is_no_place = refl
+
+first_trims_tail : insert_plan (pos 0) 5 5 action.TailTrim ≡ StoreAndTrim 0 High
+first_trims_tail = refl
+
+last_trims_head : insert_plan (negsuc 0) 5 5 action.TailTrim ≡ StoreAndTrim 5 Low
+last_trims_head = refl
+
+fifth_would_be_trimmed : insert_plan (pos 5) 5 5 action.TailTrim ≡ OutOfRange (pos 5) 5
+fifth_would_be_trimmed = refl
+
+-- Worked: a list of two elements, full at two, that refuses.
+full_list_refuses : insert_plan (pos 0) 2 2 action.Error ≡ Overflowed
+full_list_refuses = refl
+
+-- Worked: four elements, with room for a fifth at -1, and the least index that is a place.
+last_of_five : insert_plan (negsuc 0) 4 5 action.TailTrim ≡ Store 4
+last_of_five = refl
+
+least_index : insert_plan (negsuc 4) 4 5 action.TailTrim ≡ Store 0
+least_index = refl

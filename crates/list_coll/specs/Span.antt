@@ -23,3 +23,28 @@ between first last n = if int_le first last then clipped first last n false else
 -- the part of a list of n elements that a range of indices names. One index is the range from it to itself.
 abbrev pub span : IndexRange → ℕ → Option Part
 span range n = between (place_of range.first n) (place_of range.last n) n
+
+-- Worked: the indices -1 to -3 of five elements.
+last_three_downwards : span (record { first = negsuc 0; last = negsuc 2; single = false }) 5 ≡ Some (record { low = 2; high = 4; down = true })
+last_three_downwards = refl
+
+-- Worked: the indices 3 to 9 of five elements, and 5 to 9 of three.
+cut_at_the_tail : span (record { first = pos 3; last = pos 9; single = false }) 5 ≡ Some (record { low = 3; high = 4; down = false })
+cut_at_the_tail = refl
+
+past_the_tail : span (record { first = pos 5; last = pos 9; single = false }) 3 ≡ None
+past_the_tail = refl
+
+-- Worked: all of five elements, by their ends.
+whole_list : span (record { first = pos 0; last = negsuc 0; single = false }) 5 ≡ Some (record { low = 0; high = 4; down = false })
+whole_list = refl
+
+-- Worked: one index of five elements, at the head, before it and past the tail.
+head_alone : span (record { first = negsuc 4; last = negsuc 4; single = true }) 5 ≡ Some (record { low = 0; high = 0; down = false })
+head_alone = refl
+
+before_head_alone : span (record { first = negsuc 5; last = negsuc 5; single = true }) 5 ≡ None
+before_head_alone = refl
+
+past_tail_alone : span (record { first = pos 5; last = pos 5; single = true }) 5 ≡ None
+past_tail_alone = refl

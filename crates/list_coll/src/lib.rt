@@ -4,6 +4,8 @@
 mod list;
 mod plan;
 mod span;
+#[cfg(test)]
+mod tests;
 
 pub use list::ListColl;
 pub use plan::ListPlan;

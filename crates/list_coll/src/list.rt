@@ -24,15 +24,15 @@ pub struct ListColl {
 }
 
 impl Model for ListColl {
-    ghost use Rattle.std.specs.Prelude.{◌-◌, ◌≤◌, length, min};
+    ghost use Rattle.std.specs.Prelude.{◌-◌, ◌≤◌, length};
     ghost use Rattle.std.specs.VecDeque.{deque_capacity};
-    ghost use Rattle.list_coll.specs.ListContents.{ListContents};
+    ghost use Rattle.list_coll.specs.ListContents.{ListContents, most_elements, room_of};
 
     ghost Value = { ListContents };
 
-    ghost view = { λ list. record { values = list.elements.items; spare = min (deque_capacity list.elements) 4_294_967_295 - length list.elements.items } };
+    ghost view = { λ list. record { values = list.elements.items; spare = room_of (length list.elements.items) (deque_capacity list.elements - length list.elements.items) } };
 
-    ghost invariant = { λ list. length list.elements.items ≤ 4_294_967_295 };
+    ghost invariant = { λ list. length list.elements.items ≤ most_elements };
 }
 
 impl ListColl {
@@ -40,7 +40,9 @@ impl ListColl {
     pub fn new(alloc: Global) -> ListColl
         ensures { result.values ≡ [] }
     {
-        ListColl { elements: VecDeque::new(alloc) }
+        ListColl {
+            elements: VecDeque::new(alloc),
+        }
     }
 
     /// The number of elements.

@@ -31,7 +31,11 @@ pub(crate) fn part_of(range: IndexRange, count: u32) -> Option<Part>
 fn place_at(index: i32, count: u32) -> i64
     ensures { result ≡ place_of index count }
 {
-    if index >= 0 { i64::from(index) } else { i64::from(count) + i64::from(index) }
+    if index >= 0 {
+        i64::from(index)
+    } else {
+        i64::from(count) + i64::from(index)
+    }
 }
 
 // Those places from `low` to `high` that a list of `count` elements has.
@@ -42,7 +46,11 @@ fn clip(low: i64, high: i64, count: u32, down: bool) -> Option<Part>
     let first = low.max(0);
     let last = high.min(i64::from(count) - 1);
     if first <= last {
-        Some(Part { low: first as u32, high: last as u32, down })
+        Some(Part {
+            low: first as u32,
+            high: last as u32,
+            down,
+        })
     } else {
         None
     }

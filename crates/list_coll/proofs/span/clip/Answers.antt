@@ -1,6 +1,5 @@
 use Rattle.std.proofs.Common.{arith}
-use Rattle.std.proofs.lemmas.Int.{ints, clamps, to_z-of_z}
-use Rattle.list_coll.specs.Span.{clipped}
+use Rattle.std.proofs.lemmas.Int.{ints, clamps}
 use Rattle.list_coll.proofs.span.clip.Goals as goal
 
 pub returns-else-first-last-clause-part : goal.returns-else-first-last-clause-part
