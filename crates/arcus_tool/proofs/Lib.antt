@@ -1,2 +1,5 @@
 pub mod RowTexts
 pub mod Sending
+pub mod Telling
+pub mod Histories
+pub mod Going

@@ -3,5 +3,6 @@
 
 mod output;
 mod texts;
+mod units;
 
 pub use output::Unsent;
