@@ -15,7 +15,7 @@ use Rattle.arcus_tool.specs.declared.units.Stop.TheVariants as stop
 use Rattle.arcus_tool.specs.Output.{IsSent, IsSentInPart}
 use Rattle.arcus_tool.specs.Handling.{Stand, Executed, IsTold, Went, BrokeOff, EndsTooLong, GoesOn, Stops}
 use Rattle.arcus_tool.proofs.Sending.{sent_on, sent_nothing, cause_since}
-use Rattle.arcus_tool.proofs.Histories.{executed_on, spans_on, tells_on}
+use Rattle.arcus_tool.proofs.Histories.{executed_on, spans_on, tells_on, none_on}
 use Rattle.arcus_tool.proofs.Telling.{nothing_executed}
 
 -- the same session by another way to write its tail
@@ -29,7 +29,7 @@ goes_on_fed from to taken progress progress' behind n stands is =
     (is.0, is.1 ++ take n behind,
      went_by from to taken is.0 (is.1 ++ behind) ((is.1 ++ take n behind) ++ drop n behind)
        (ap (λ b. is.1 ++ b) (sym (take-append-drop n behind)) ∙ sym (append_assoc is.1 (take n behind) (drop n behind))) is.2,
-     stands is.1 is.3)
+     stands is.1 is.3, is.4)
 
 module _ (from middle to : Stand) (taken : List ℕ) (units : List Whole) (unit : Whole) (span rest : List ℕ) (went : Went from middle taken units (span ++ rest)) (is_span : IsSpan line_needs span unit) where
   -- the next unit was told whole
@@ -70,10 +70,10 @@ module _ (from middle to : Stand) (taken rest : List ℕ) (progress : Progress) 
   -- the unit that is ready was told whole, and the reader begins a new one
   pub told_next : (after : Progress) (ready : Option Whole) → (ready ≡ None → ⊥)
       → ((bytes : List ℕ) → StandsFor line_needs progress bytes → MatchOption ready (IsRest line_needs bytes) (λ unit. IsSpan line_needs bytes unit))
-      → IfSome ready (λ unit. IsTold (TellsUnit unit) middle to (Ok tt)) → StandsFor line_needs after [] → GoesOn from to taken after rest
-  told_next after None some spans told stands = absurd (some refl)
-  told_next after (Some unit) some spans told stands =
-      (went.0 ++ unit ∷ [], [], went_on from middle to taken went.0 unit went.1 rest went.2 (spans went.1 went.3) told, stands)
+      → IfSome ready (λ unit. IsTold (TellsUnit unit) middle to (Ok tt)) → StandsFor line_needs after [] → (ready ≡ Some line_too_long → ⊥) → GoesOn from to taken after rest
+  told_next after None some spans told stands short = absurd (some refl)
+  told_next after (Some unit) some spans told stands short =
+      (went.0 ++ unit ∷ [], [], went_on from middle to taken went.0 unit went.1 rest went.2 (spans went.1 went.3) told, stands, none_on went.0 unit went.4 (λ e. short (ap Some e)))
 
   -- the unit that is ready was told in part
   pub broke_next : (ready : Option Whole) (cause : Unsent) → (ready ≡ None → ⊥)
@@ -90,7 +90,7 @@ told_too_long at = ([], [], (refl, refl), nothing_executed at at refl refl, (rec
 pub stops_too_long : (from at : Stand) (taken rest : List ℕ) (progress : Progress) → GoesOn from at taken progress rest → ((bytes : List ℕ) → StandsFor line_needs progress bytes → IsSpan line_needs bytes line_too_long)
     → Stops from at taken stop.LineTooLong
 stops_too_long from at taken rest progress went spans =
-    (went.0 ++ line_too_long ∷ [], rest, went_on from at at taken went.0 line_too_long went.1 rest went.2 (spans went.1 went.3) (told_too_long at), record { front = went.0; last = refl })
+    (went.0 ++ line_too_long ∷ [], rest, went_on from at at taken went.0 line_too_long went.1 rest went.2 (spans went.1 went.3) (told_too_long at), record { front = went.0; last = refl; others = went.4 })
 
 -- a unit that is not waited for is whole
 pub not_waiting : (unit : UnitOfBytes) → (unit ≡ unit_of.Wait → ⊥) → whole_of unit ≡ None → ⊥
@@ -101,3 +101,13 @@ not_waiting (unit_of.BadChunk line) not e = cc
 not_waiting (unit_of.TooLarge line) not e = cc
 not_waiting (unit_of.BlockNoMemory line) not e = cc
 not_waiting unit_of.LineTooLong not e = cc
+
+-- a unit that is not too long is no line that is too long
+pub not_too_long : (unit : UnitOfBytes) → (unit ≡ unit_of.LineTooLong → ⊥) → whole_of unit ≡ Some line_too_long → ⊥
+not_too_long unit_of.Wait not e = cc
+not_too_long (unit_of.Line line) not e = cc
+not_too_long (unit_of.LineWithBlock line block) not e = cc
+not_too_long (unit_of.BadChunk line) not e = cc
+not_too_long (unit_of.TooLarge line) not e = cc
+not_too_long (unit_of.BlockNoMemory line) not e = cc
+not_too_long unit_of.LineTooLong not e = not refl

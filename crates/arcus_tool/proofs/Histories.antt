@@ -6,9 +6,9 @@ use Rattle.arc_core.specs.declared.outside.Need.{Need}
 use Rattle.arc_core.specs.Outside.{Ticks}
 use Rattle.arc_core.specs.CacheState.{CacheState}
 use Rattle.arc_core.specs.History.{Entry, Executes, Replays}
-use Rattle.arc_core.specs.Framing.{Whole, BeginsWith, IsSpan}
+use Rattle.arc_core.specs.Framing.{Whole, BeginsWith, IsSpan, line_too_long}
 use Rattle.arc_core.specs.SessionText.{TellsUnit, TellsGroups, Tells, Group, alone, groups}
-use Rattle.arcus_tool.specs.Handling.{Stand, TicksThrough, IsOwn, Executed}
+use Rattle.arcus_tool.specs.Handling.{Stand, TicksThrough, IsOwn, Executed, NoneTooLong}
 
 pub replays_on : (old middle new : CacheState) (first next : List Entry) → Replays old first middle → Replays middle next new → Replays old (first ++ next) new
 replays_on old middle new [] next is then = subst (λ s. Replays s next new) is then
@@ -39,6 +39,11 @@ spans_on needs bytes (first ∷ units) unit span rest is next = (is.0, is.1, is.
 pub spans_more : (needs : List ℕ → Need) (bytes : List ℕ) (units : List Whole) (tail more : List ℕ) → BeginsWith needs bytes units tail → BeginsWith needs (bytes ++ more) units (tail ++ more)
 spans_more needs bytes [] tail more is = ap (λ b. b ++ more) is
 spans_more needs bytes (unit ∷ units) tail more is = (is.0, is.1 ++ more, ap (λ b. b ++ more) is.2 ∙ append_assoc is.0 is.1 more, is.3, spans_more needs is.1 units tail more is.4)
+
+-- a unit that is not too long behind others that are not
+pub none_on : (units : List Whole) (unit : Whole) → NoneTooLong units → (unit ≡ line_too_long → ⊥) → NoneTooLong (units ++ unit ∷ [])
+none_on [] unit is next = (next, tt)
+none_on (first ∷ units) unit is next = (is.0, none_on units unit is.1 next)
 
 -- what a unit behind others tells
 pub tells_on : (units : List Whole) (unit : Whole) (entries own : List Entry) (text said : List ℕ) → Tells true units entries text → TellsUnit unit own said → Tells true (units ++ unit ∷ []) (entries ++ own) (text ++ said)

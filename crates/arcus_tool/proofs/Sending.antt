@@ -1,5 +1,7 @@
 -- Texts that are sent piece by piece.
-use Rattle.std.proofs.Common.{◌≡◌, ◌+◌, ◌-◌, ◌≤◌, ℕ, List, [], ◌∷◌, ◌++◌, length, take, drop, Option, Some, None, Result, Ok, Err, refl, sym, ap, ◌∙◌, arith, append_assoc, length-drop, subst}
+use Rattle.std.proofs.Common.{◌≡◌, ◌+◌, ◌-◌, ◌≤◌, ℕ, List, [], ◌∷◌, ◌++◌, length, take, drop, Option, Some, None, Result, Ok, Err, refl, sym, ap, ◌∙◌, arith, append_assoc, length-drop, subst, true}
+use Rattle.std.specs.Prelude.{◌==◌}
+use Rattle.std.proofs.lemmas.Bool.Decides.{nat_tests}
 use Rattle.std.proofs.lemmas.List.{append-nil, take-append-drop}
 use Rattle.std.proofs.Math.Seq.{take-length}
 use Rattle.arc_core.specs.Outside.{then_sent}
@@ -109,3 +111,11 @@ sends_since start sent sent' faults faults' faults'' refusals refusals' refusals
     (gathered_all start sent' text (flushed start sent sent' gathered text was is.0), is.1 ∙ f, is.2 ∙ r)
 sends_since start sent sent' faults faults' faults'' refusals refusals' refusals'' gathered text (Err cause) was is f r =
     (flushed_in_part start sent sent' gathered text was is.0, cause_since faults faults' faults'' refusals refusals' refusals'' cause f r is.1)
+
+none_of_length : (xs : List ℕ) → length xs ≡ 0 → xs ≡ []
+none_of_length [] e = refl
+none_of_length (x ∷ xs) e = absurd (omega arith)
+
+-- what `is_empty` says of a list
+pub is_empty_list : (xs : List ℕ) → true ≡ (length xs == 0) → xs ≡ []
+is_empty_list xs e = none_of_length xs (grind (arith, nat_tests))

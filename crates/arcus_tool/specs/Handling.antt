@@ -95,10 +95,15 @@ pub record BrokeOff (from to : Stand) (taken : List ℕ) (cause : Unsent) : Type
   pub sent : IsSentInPart from.sent to.sent text
   pub has_cause : HasCause from.faults to.faults from.refusals to.refusals cause
 
--- The last of the units is a line that is too long.
+-- None of the units is a line that is too long.
+abbrev pub NoneTooLong : List Whole → Type 0
+NoneTooLong units = AllByRecursion (λ unit. unit ≡ line_too_long → ⊥) units
+
+-- The last of the units is a line that is too long, and no other is.
 pub record EndsTooLong (units : List Whole) : Type 0 where
   pub front : List Whole
   pub last : units ≡ front ++ line_too_long ∷ []
+  pub others : NoneTooLong front
 
 -- Why the session goes no further.
 abbrev pub Stops : Stand → Stand → List ℕ → Stop → Type 0
@@ -108,7 +113,7 @@ Stops from to taken stop.LineTooLong = (units : List Whole) × (tail : List ℕ)
 -- The session went on so far that the reader has taken all of the tail but these bytes.
 abbrev pub GoesOn : Stand → Stand → List ℕ → Progress → List ℕ → Type 0
 GoesOn from to taken progress behind =
-    (units : List Whole) × (tail : List ℕ) × Went from to taken units (tail ++ behind) × StandsFor line_needs progress tail
+    (units : List Whole) × (tail : List ℕ) × Went from to taken units (tail ++ behind) × StandsFor line_needs progress tail × NoneTooLong units
 
 -- No unit is ready and nothing waits in the outbox; the reader stands for some bytes.
 pub record IsBetweenUnits (progress : Progress) (waiting : List ℕ) : Type 0 where
@@ -116,6 +121,11 @@ pub record IsBetweenUnits (progress : Progress) (waiting : List ℕ) : Type 0 wh
   pub empty : waiting ≡ []
   pub tail : List ℕ
   pub stands : StandsFor line_needs progress tail
+
+-- All bytes of a piece were taken and the session goes on, or it stops.
+abbrev pub TakesAll : Stand → Stand → List ℕ → Progress → Result Prim.Unit Stop → Type 0
+TakesAll from to taken progress (Ok _) = GoesOn from to taken progress []
+TakesAll from to taken progress (Err cause) = Stops from to taken cause
 
 -- So many bytes of the piece were taken and the session goes on with the others, or it stops.
 abbrev pub Takes : Stand → Stand → List ℕ → Progress → List ℕ → Result ℕ Stop → Type 0

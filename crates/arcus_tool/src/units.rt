@@ -9,7 +9,7 @@ ghost use Rattle.arc_core.specs.Grammar.{IsHead, IsBlockFor, line_needs, request
 ghost use Rattle.arc_core.specs.PlainRequest.{plain};
 ghost use Rattle.arc_core.specs.ReplyText.{reply_text};
 ghost use Rattle.line_grammar.specs.PlainHead.{plain_head};
-ghost use Rattle.arcus_tool.specs.Handling.{Stand, stand, IsTold, TellsLine, TellsRequest, HasItsBlock, IsBetweenUnits, GoesOn, Takes};
+ghost use Rattle.arcus_tool.specs.Handling.{Stand, stand, IsTold, TellsLine, TellsRequest, HasItsBlock, IsBetweenUnits, GoesOn, Takes, TakesAll};
 
 use crate::output::{Outbox, Unsent};
 use crate::texts::{send_reply, send_word};
@@ -153,4 +153,34 @@ fn take_unit<E: Executor, C: Clock, K: Sink>(
     }
     frames.done();
     Ok(count)
+}
+
+/// Takes all bytes of a piece, and handles each unit that gets whole. What was taken of the next unit stays with the
+/// frames.
+///
+/// `Unsent` comes where a text was not sent whole, and `LineTooLong` where a line is too long; the frames are of no
+/// use then.
+pub fn take_piece<E: Executor, C: Clock, K: Sink>(
+    frames: &mut Frames<KvHeads>,
+    exec: &mut E,
+    clock: &mut C,
+    out: &mut Outbox,
+    sink: &mut K,
+    piece: &[u8],
+) -> Result<(), Stop>
+    requires { IsBetweenUnits frames.old out.old }
+    ensures at_end { OnOk result (IsBetweenUnits frames.new out.new) }
+    ensures goes { (from : Stand) (taken : List ℕ) → GoesOn from
+            (stand (E.state exec.old) (C.coming clock.old) (K.sent sink.old) (K.write_faults sink.old) (K.refusals sink.old))
+            taken frames.old piece.now
+        → TakesAll from
+            (stand (E.state exec.new) (C.coming clock.new) (K.sent sink.new) (K.write_faults sink.new) (K.refusals sink.new))
+            taken frames.new result }
+{
+    let mut rest = piece;
+    while !rest.is_empty() {
+        let count = take_unit(frames, exec, clock, out, sink, rest)?;
+        rest = &rest[count..];
+    }
+    Ok(())
 }

@@ -1,6 +1,6 @@
 use Rattle.std.proofs.Common.{[]}
 use Rattle.frame_reader.specs.Units.{whole_of}
-use Rattle.arcus_tool.proofs.Going.{goes_on_fed, told_next, broke_next, stops_too_long, not_waiting}
+use Rattle.arcus_tool.proofs.Going.{goes_on_fed, told_next, broke_next, stops_too_long, not_waiting, not_too_long}
 use Rattle.arcus_tool.proofs.units.take_unit.Goals as goal
 
 pub returns-in-Wait-clause-goes : goal.returns-in-Wait-clause-goes
@@ -27,5 +27,5 @@ returns g c = record {
   at_end = record { waits = c.done.ensures.waits; empty = c.in_default-answer_unit.ensures.empty; tail = []; stands = c.done.ensures.stands };
   goes = λ from taken went.
     let fed = goes_on_fed from _ taken _ c.feed-count.new.self c.args.piece.now c.feed-count.result c.feed-count.ensures.stands went in
-    told_next from _ _ taken _ c.feed-count.new.self fed c.done.new.self (whole_of c.unit.result) (not_waiting c.unit.result c.in_default.not-Wait) c.unit.ensures.span c.in_default-answer_unit.ensures.told c.done.ensures.stands;
+    told_next from _ _ taken _ c.feed-count.new.self fed c.done.new.self (whole_of c.unit.result) (not_waiting c.unit.result c.in_default.not-Wait) c.unit.ensures.span c.in_default-answer_unit.ensures.told c.done.ensures.stands (not_too_long c.unit.result c.in_default.not-LineTooLong);
 }
