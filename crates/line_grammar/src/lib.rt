@@ -7,6 +7,8 @@ mod heads;
 mod kv;
 mod lines;
 mod parts;
+#[cfg(test)]
+mod tests;
 
 pub use heads::{Command, Head, LineFault};
 pub use lines::{KvHeads, line_spells_one_head, read_line};

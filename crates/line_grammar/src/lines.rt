@@ -32,12 +32,7 @@ pub fn read_line(line: &[u8]) -> Result<Head<'_>, LineFault>
 fn read_words<'a>(mut words: WordIter<'a>) -> Result<Head<'a>, LineFault>
     ensures { plain_answer result ≡ answer_to words.entry }
 {
-    let Some(first) = words.next() else {
-        return Err(LineFault::Unknown);
-    };
-    let Some(name) = name_of(first) else {
-        return Err(LineFault::Unknown);
-    };
+    let name = words.next().and_then(name_of).ok_or(LineFault::Unknown)?;
     read_row(name, words).ok_or(LineFault::BadFormat)
 }
 

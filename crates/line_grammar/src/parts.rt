@@ -13,10 +13,7 @@ const MAX_DIGITS: usize = 20;
 pub fn key(word: &[u8]) -> Option<KeyRef<'_>>
     ensures { result ≡ key_word word.now }
 {
-    match KeyRef::read(word) {
-        Ok(key) => Some(key),
-        Err(_) => None,
-    }
+    KeyRef::read(word).ok()
 }
 
 /// Reads a word as a number of at most `most`: 1 to 20 decimal digits, of which leading zeros count for nothing.
@@ -47,12 +44,6 @@ pub fn number(word: &[u8], most: u32) -> Option<u32>
 pub fn exptime(word: &[u8]) -> Option<i64>
     ensures { result ≡ zero_exptime word.now }
 {
-    let digits = match word {
-        [b'-', digits @ ..] => digits,
-        _ => word,
-    };
-    match number(digits, 0) {
-        Some(_) => Some(0),
-        None => None,
-    }
+    let digits = word.strip_prefix(b"-").unwrap_or(word);
+    number(digits, 0).map(i64::from)
 }
