@@ -1,7 +1,7 @@
 //! The words of a line or block, read where they lie.
 ghost use Rattle.std.specs.Prelude.{◌≡◌, ◌<◌, List, ℕ, [], ◌∷◌, length, position, MatchOption, IfSome};
 ghost use Rattle.std.specs.Iterator.{YieldsFirst, YieldsFirstRef, item_count};
-ghost use Rattle.arc_core.specs.Words.{is_space, is_other, words, key_count, keys_counted, keys_up_to};
+ghost use Rattle.arc_core.specs.Words.{AreKeys, is_space, is_other, words, key_count, keys_counted, keys_up_to};
 
 use crate::KeyRef;
 use std::marker::Model;
@@ -130,7 +130,8 @@ impl<'a> KeyWords<'a> {
 
     /// How many keys there are.
     pub fn count(&self) -> u32
-        ensures { result ≡ length self.now }
+        ensures number { result ≡ length self.now }
+        ensures keys { AreKeys self.now }
     {
         self.count
     }
