@@ -10,7 +10,8 @@ use std::marker::Model;
 ///
 /// Words are separated by spaces, however many.
 pub fn first_word(text: &[u8]) -> Option<(&[u8], &[u8])>
-    ensures words { MatchOption result (words text.now ≡ []) (λ split. words text.now ≡ split.0.now ∷ words split.1.now) }
+    ensures words { MatchOption result (words text.now ≡ [])
+        (λ split. words text.now ≡ split.0.now ∷ words split.1.now) }
     ensures shorter { IfSome result (λ split. length split.1.now < length text.now) }
 {
     let (_, text) = text.split_at(first_other(text)?);

@@ -16,13 +16,15 @@ use arc_core::{Heads, Need, WordIter};
 ///
 /// A line spells at most one head, and where it spells one that is the answer. `Unknown` comes exactly where the line
 /// has no word or its first word names no command; `BadFormat` exactly where it names one, and the further words do
-/// not spell it. Takes no memory.
+/// not spell it. Takes no memory. (Which of the two faults a line has is this server's own rule.)
 pub fn read_line(line: &[u8]) -> Result<Head<'_>, LineFault>
     ensures found { IfOk result (λ head. IsHead line.now (plain_head head)) }
-    ensures only { (head : plain.Head) → IsHead line.now head → IsOkAnd result (λ answer. plain_head answer ≡ head) }
+    ensures only { (head : plain.Head) →
+        IsHead line.now head → IsOkAnd result (λ answer. plain_head answer ≡ head) }
     ensures unknown { (result ≡ Err LineFault.Unknown) ↔ IsUnknown line.now }
     ensures bad_format { (result ≡ Err LineFault.BadFormat) ↔ IsBadFormat line.now }
-    ensures needs { MatchResult result (λ head. line_needs line.now ≡ need_of (plain_head head).command)
+    ensures needs { MatchResult result
+        (λ head. line_needs line.now ≡ need_of (plain_head head).command)
         (λ _. line_needs line.now ≡ need.Nothing) }
 {
     read_words(WordIter::of(line))
@@ -67,10 +69,14 @@ fn read_row<'a>(name: Name, words: WordIter<'a>) -> Option<Head<'a>>
     }
 }
 
-/// A line spells at most one head, and a line and a block spell at most one request. (This is the contract.)
+/// A line spells at most one head, and a line and its block spell at most one request.
+///
+/// The function does nothing: this law is its contract.
 pub fn line_spells_one_head()
-    ensures heads { (line : List ℕ) (one other : plain.Head) → IsHead line one → IsHead line other → one ≡ other }
-    ensures requests { (line block : List ℕ) (one other : PlainRequest) → SpellsRequest line block one → SpellsRequest line block other → one ≡ other }
+    ensures heads { (line : List ℕ) (one other : plain.Head) →
+        IsHead line one → IsHead line other → one ≡ other }
+    ensures requests { (line block : List ℕ) (one other : PlainRequest) →
+        SpellsRequest line block one → SpellsRequest line block other → one ≡ other }
 {}
 
 /// Knows which key-value lines ask for a block.

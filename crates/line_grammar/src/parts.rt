@@ -1,4 +1,4 @@
-//! Single words of a line: numbers, exptimes and keys.
+//! Single words of a line: keys, numbers and exptimes.
 ghost use Rattle.std.specs.Prelude.{◌≡◌, ◌≤◌, ◌+◌, IfSome};
 ghost use Rattle.arc_core.specs.Words.{number_below, key_word};
 ghost use Rattle.arc_core.specs.KeyValueGrammar.{zero_exptime};
@@ -17,6 +17,7 @@ pub fn key(word: &[u8]) -> Option<KeyRef<'_>>
 }
 
 /// Reads a word as a number of at most `most`: 1 to 20 decimal digits, of which leading zeros count for nothing.
+/// (This server's own rule; memcached reads numbers as the C library does.)
 #[tactic(auto, unfolding(arc_core::specs::Words::number_below))]
 pub fn number(word: &[u8], most: u32) -> Option<u32>
     ensures value { result ≡ number_below (most + 1) word.now }
