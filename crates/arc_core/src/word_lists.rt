@@ -72,13 +72,9 @@ impl<'a> Iterator for WordIter<'a> {
     ghost remaining = { item_count (λ left. left) };
 
     fn next(&mut self) -> Option<&'a [u8]> {
-        match first_word(self.text) {
-            Some((word, behind)) => {
-                self.text = behind;
-                Some(word)
-            }
-            None => None,
-        }
+        let (word, behind) = first_word(self.text)?;
+        self.text = behind;
+        Some(word)
     }
 }
 
@@ -186,9 +182,6 @@ impl<'a> Iterator for KeyIter<'a> {
     ghost remaining = { item_count (λ left. left) };
 
     fn next(&mut self) -> Option<KeyRef<'a>> {
-        match self.words.next() {
-            Some(word) => Some(KeyRef::of(word)),
-            None => None,
-        }
+        self.words.next().map(KeyRef::of)
     }
 }

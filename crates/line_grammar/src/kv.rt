@@ -17,7 +17,7 @@ const MAX_LEN: u32 = 2_147_483_647;
 
 /// Reads what follows `set`: `<key> <flags> 0 <bytes>`, with an exptime of 0 alone.
 #[tactic(auto, unfolding(arc_core::specs::KeyValueGrammar::set_row))]
-pub fn set<'a>(mut words: WordIter<'a>) -> Option<Head<'a>>
+pub fn set(mut words: WordIter<'_>) -> Option<Head<'_>>
     ensures { option_map plain_head result ≡ row_read set_row words.entry }
 {
     let key = key(words.next()?)?;
@@ -41,7 +41,7 @@ pub fn set<'a>(mut words: WordIter<'a>) -> Option<Head<'a>>
 
 /// Reads what follows `get`: `<key> [<key> ..]`, with 1,000 keys at most.
 #[tactic(auto, unfolding(arc_core::specs::KeyValueGrammar::get_row))]
-pub fn get<'a>(words: WordIter<'a>) -> Option<Head<'a>>
+pub fn get(words: WordIter<'_>) -> Option<Head<'_>>
     ensures { option_map plain_head result ≡ row_read get_row words.entry }
 {
     let keys = KeyWords::up_to(words.text(), MAX_KEYS)?;

@@ -31,7 +31,7 @@ pub fn read_line(line: &[u8]) -> Result<Head<'_>, LineFault>
 }
 
 // The one answer to a line's words, from which the clauses of `read_line` follow by laws.
-fn read_words<'a>(mut words: WordIter<'a>) -> Result<Head<'a>, LineFault>
+fn read_words(mut words: WordIter<'_>) -> Result<Head<'_>, LineFault>
     ensures { plain_answer result ≡ answer_to words.entry }
 {
     let name = words.next().and_then(name_of).ok_or(LineFault::Unknown)?;
@@ -60,7 +60,7 @@ fn name_of(word: &[u8]) -> Option<Name>
 }
 
 // The head that the words behind a command's name spell.
-fn read_row<'a>(name: Name, words: WordIter<'a>) -> Option<Head<'a>>
+fn read_row(name: Name, words: WordIter<'_>) -> Option<Head<'_>>
     ensures { option_map plain_head result ≡ row_read (row_of (named name)) words.entry }
 {
     match name {
