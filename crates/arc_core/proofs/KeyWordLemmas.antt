@@ -9,6 +9,7 @@ use Rattle.arc_core.specs.declared.keys.KeyFault.{KeyFault}
 use Rattle.arc_core.specs.Key.{key_fault, key_read, IsKey}
 use Rattle.arc_core.specs.Words.{AreKeys, are_keys, key_count, keys_counted, keys_up_to}
 
+-- what a choice between a value and none says of its test
 cond-none : {A : Type 0} (b : Bool) (x : A) → cond b (Some x) None ≡ None → b ≡ false
 cond-none true x h = cc
 cond-none false x h = refl
@@ -19,6 +20,7 @@ cond-at_false b x h = rw h
 cond-at_true : {A : Type 0} (b : Bool) (x : A) → b ≡ true → cond b (Some x) None ≡ Some x
 cond-at_true b x h = rw h
 
+-- a test that there is no value
 none-from_true : {A : Type 0} (o : Option A) → is_none o ≡ true → o ≡ None
 none-from_true None h = refl
 none-from_true (Some x) h = cc
@@ -37,6 +39,7 @@ pub key_count-all : (most : ℕ) (list : List (List ℕ)) → length list ≤ mo
 unfolding key_count
 key_count-all most list h k = cond-at_true _ _ (and_from _ _ (le-leb (length list) most h) k)
 
+-- a fault comes where there is one
 fault-from_err : (word : List ℕ) (fault : Option KeyFault) → is_err (key_read word fault) ≡ true → is_none fault ≡ false
 fault-from_err word None h = cc
 fault-from_err word (Some fault) h = refl

@@ -14,6 +14,7 @@ drop_step : (b : Bool) (n : ℕ) (x : ℕ) (xs : List ℕ) → drop (cond b (1 +
 drop_step true n x xs = let e : 1 + n ≡ suc n = omega arith in rw e
 drop_step false n x xs = refl
 
+-- one step of the next lemma, by whether the byte is a space
 behind_step : (x : ℕ) (xs ys : List ℕ) (b : Bool) → is_space x ≡ b → words xs ≡ words ys → words (x ∷ xs) ≡ words (cond (not (not b)) ys (x ∷ xs))
 behind_step x xs ys true e h = rw e h
 behind_step x xs ys false e h = refl
@@ -25,9 +26,11 @@ words-behind_spaces (x ∷ xs) =
     rw (drop_step (not (is_other x)) (prefix_len (λ y. not (is_other y)) xs) x xs)
     (behind_step x xs (drop (position_or_len is_other xs) xs) (is_space x) refl (words-behind_spaces xs))
 
+-- The text begins with a word, or is empty.
 abbrev Begins : List ℕ → Type 0
 Begins xs = (xs ≡ []) ⊎ (0 < position_or_len is_space xs)
 
+-- one step of the next lemma
 begins_step : (x : ℕ) (xs ys : List ℕ) (b : Bool) → is_space x ≡ b → Begins ys → Begins (cond (not (not b)) ys (x ∷ xs))
 begins_step x xs ys true e h = h
 begins_step x xs ys false e h = inr (rw e (omega arith))
@@ -39,6 +42,7 @@ word_begins (x ∷ xs) =
     rw (drop_step (not (is_other x)) (prefix_len (λ y. not (is_other y)) xs) x xs)
     (begins_step x xs (drop (position_or_len is_other xs) xs) (is_space x) refl (word_begins xs))
 
+-- a part that is not empty is kept
 filter_first : (word : List ℕ) (parts : List (List ℕ)) → 0 < length word
     → filter (λ w. ltb 0 (length w)) (word ∷ parts) ≡ word ∷ filter (λ w. ltb 0 (length w)) parts
 filter_first word parts h = rw (lt-ltb 0 (length word) h)
@@ -66,9 +70,11 @@ words-only xs h w =
     ap (filter (λ word. ltb 0 (length word))) (slice_split_none is_space xs none) ∙ filter_first xs [] long
     ∙ ap (λ word. word ∷ []) (sym (take_all p xs w)) ∙ ap (λ rest. take p xs ∷ words rest) (sym (drop_all p xs w))
 
+-- the first word of a text that begins with one
 words-first : (xs : List ℕ) (n : ℕ) → n ≡ position_or_len is_space xs → 0 < position_or_len is_space xs → words xs ≡ take n xs ∷ words (drop n xs)
 words-first xs n e h = rw e (⊎_elim (words-first_of_more xs h) (words-only xs h) (cases_lt (position_or_len is_space xs) (length xs)))
 
+-- the place of the first byte that passes, as a count of those in front
 position-or : (p : ℕ → Bool) (xs : List ℕ) → unwrap_or (position p xs) (length xs) ≡ position_or_len p xs
 position-or p xs = grind (arith, common_steps, prefix_len-le-length (λ b. not (p b)) xs)
 
@@ -78,6 +84,7 @@ position-Some_at p xs i h = grind (arith, common_steps)
 position-None_at : (p : ℕ → Bool) (xs : List ℕ) → position p xs ≡ None → length xs ≤ position_or_len p xs
 position-None_at p xs h = grind (arith, common_steps)
 
+-- a text with no byte other than the space has no word
 pub words-none : (xs : List ℕ) → position is_other xs ≡ None → words xs ≡ []
 words-none xs h = words-behind_spaces xs ∙ ap words (drop_all _ xs (position-None_at is_other xs h))
 
@@ -91,6 +98,7 @@ words-some_at xs i n at w e =
     let same : words xs ≡ words left = words-behind_spaces xs ∙ ap (λ k. words (drop k xs)) at in
     (same ∙ words-first left n e word, rw (length-drop n left, length-drop i xs) (omega (arith, e, word, w)))
 
+-- the first word of a text, and the text behind it
 pub words-some : (xs : List ℕ) (i n : ℕ) → position is_other xs ≡ Some i → n ≡ unwrap_or (position is_space (drop i xs)) (length (drop i xs))
     → (words xs ≡ take n (drop i xs) ∷ words (drop n (drop i xs))) × (length (drop n (drop i xs)) < length xs)
 words-some xs i n h e =

@@ -1,5 +1,5 @@
 -- Worked examples that compute.
-use Rattle.std.specs.Prelude.{◌≡◌, [], ◌∷◌, codes, refl, false, None, Some, pos}
+use Rattle.std.specs.Prelude.{◌≡◌, ◌^◌, [], ◌∷◌, codes, refl, false, None, Some, pos}
 use Rattle.arc_core.specs.declared.outside.Need.TheVariants as need
 use Rattle.arc_core.specs.declared.requests.Answer.TheVariants as answer
 use Rattle.arc_core.specs.declared.requests.StoreVerb.TheVariants as verb
@@ -25,6 +25,30 @@ reads_get = refl
 refuses_a_word_too_many : head_of (words (codes "set a 5 0 3 4")) ≡ None
 unfolding command_of set_row zero_exptime number_below key_word
 refuses_a_word_too_many = refl
+
+-- an exptime other than 0 is not read
+refuses_an_exptime : head_of (words (codes "set a 5 10 3")) ≡ None
+unfolding command_of set_row zero_exptime number_below key_word
+refuses_an_exptime = refl
+
+-- nor are 21 digits, though their value is small
+refuses_21_digits : number_below (2 ^ 32) (codes "000000000000000000001") ≡ None
+unfolding number_below
+refuses_21_digits = refl
+
+-- 4,294,967,295 is the greatest number of flags
+reads_greatest_flags : number_below (2 ^ 32) (codes "4294967295") ≡ Some 4294967295
+unfolding number_below
+reads_greatest_flags = refl
+
+refuses_greater_flags : number_below (2 ^ 32) (codes "4294967296") ≡ None
+unfolding number_below
+refuses_greater_flags = refl
+
+-- names of commands are written in lower case
+knows_no_capitals : command_of (codes "SET") ≡ None
+unfolding command_of
+knows_no_capitals = refl
 
 -- a storing command asks for its block
 needs_of_set : line_needs (codes "set a 5 0 3") ≡ need.Block 3 131070

@@ -10,7 +10,8 @@ use std::marker::Model;
 ///
 /// Words are separated by spaces, however many.
 pub fn first_word(text: &[u8]) -> Option<(&[u8], &[u8])>
-    ensures words { MatchOption result (words text.now ≡ []) (λ split. words text.now ≡ split.0.now ∷ words split.1.now) }
+    ensures words { MatchOption result (words text.now ≡ [])
+        (λ split. words text.now ≡ split.0.now ∷ words split.1.now) }
     ensures shorter { IfSome result (λ split. length split.1.now < length text.now) }
 {
     let (_, text) = text.split_at(first_other(text)?);
@@ -71,13 +72,9 @@ impl<'a> Iterator for WordIter<'a> {
     ghost remaining = { item_count (λ left. left) };
 
     fn next(&mut self) -> Option<&'a [u8]> {
-        match first_word(self.text) {
-            Some((word, behind)) => {
-                self.text = behind;
-                Some(word)
-            }
-            None => None,
-        }
+        let (word, behind) = first_word(self.text)?;
+        self.text = behind;
+        Some(word)
     }
 }
 
@@ -185,9 +182,6 @@ impl<'a> Iterator for KeyIter<'a> {
     ghost remaining = { item_count (λ left. left) };
 
     fn next(&mut self) -> Option<KeyRef<'a>> {
-        match self.words.next() {
-            Some(word) => Some(KeyRef::of(word)),
-            None => None,
-        }
+        self.words.next().map(KeyRef::of)
     }
 }

@@ -43,7 +43,7 @@ pub enum LineFault {
 }
 
 impl<'a> Head<'a> {
-    /// Which block follows the line.
+    /// Which block follows the line: that of a storing command has the bytes that it names, 131,070 at most.
     pub fn need(&self) -> Need
         ensures { result ≡ need_of (plain_head self.now).command }
     {

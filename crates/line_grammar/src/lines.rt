@@ -16,28 +16,25 @@ use arc_core::{Heads, Need, WordIter};
 ///
 /// A line spells at most one head, and where it spells one that is the answer. `Unknown` comes exactly where the line
 /// has no word or its first word names no command; `BadFormat` exactly where it names one, and the further words do
-/// not spell it. Takes no memory.
+/// not spell it. Takes no memory. (Which of the two faults a line has is this server's own rule.)
 pub fn read_line(line: &[u8]) -> Result<Head<'_>, LineFault>
     ensures found { IfOk result (λ head. IsHead line.now (plain_head head)) }
-    ensures only { (head : plain.Head) → IsHead line.now head → IsOkAnd result (λ answer. plain_head answer ≡ head) }
+    ensures only { (head : plain.Head) →
+        IsHead line.now head → IsOkAnd result (λ answer. plain_head answer ≡ head) }
     ensures unknown { (result ≡ Err LineFault.Unknown) ↔ IsUnknown line.now }
     ensures bad_format { (result ≡ Err LineFault.BadFormat) ↔ IsBadFormat line.now }
-    ensures needs { MatchResult result (λ head. line_needs line.now ≡ need_of (plain_head head).command)
+    ensures needs { MatchResult result
+        (λ head. line_needs line.now ≡ need_of (plain_head head).command)
         (λ _. line_needs line.now ≡ need.Nothing) }
 {
     read_words(WordIter::of(line))
 }
 
 // The one answer to a line's words, from which the clauses of `read_line` follow by laws.
-fn read_words<'a>(mut words: WordIter<'a>) -> Result<Head<'a>, LineFault>
+fn read_words(mut words: WordIter<'_>) -> Result<Head<'_>, LineFault>
     ensures { plain_answer result ≡ answer_to words.entry }
 {
-    let Some(first) = words.next() else {
-        return Err(LineFault::Unknown);
-    };
-    let Some(name) = name_of(first) else {
-        return Err(LineFault::Unknown);
-    };
+    let name = words.next().and_then(name_of).ok_or(LineFault::Unknown)?;
     read_row(name, words).ok_or(LineFault::BadFormat)
 }
 
@@ -63,7 +60,7 @@ fn name_of(word: &[u8]) -> Option<Name>
 }
 
 // The head that the words behind a command's name spell.
-fn read_row<'a>(name: Name, words: WordIter<'a>) -> Option<Head<'a>>
+fn read_row(name: Name, words: WordIter<'_>) -> Option<Head<'_>>
     ensures { option_map plain_head result ≡ row_read (row_of (named name)) words.entry }
 {
     match name {
@@ -72,10 +69,14 @@ fn read_row<'a>(name: Name, words: WordIter<'a>) -> Option<Head<'a>>
     }
 }
 
-/// A line spells at most one head, and a line and a block spell at most one request. (This is the contract.)
+/// A line spells at most one head, and a line and its block spell at most one request.
+///
+/// The function does nothing: this law is its contract.
 pub fn line_spells_one_head()
-    ensures heads { (line : List ℕ) (one other : plain.Head) → IsHead line one → IsHead line other → one ≡ other }
-    ensures requests { (line block : List ℕ) (one other : PlainRequest) → SpellsRequest line block one → SpellsRequest line block other → one ≡ other }
+    ensures heads { (line : List ℕ) (one other : plain.Head) →
+        IsHead line one → IsHead line other → one ≡ other }
+    ensures requests { (line block : List ℕ) (one other : PlainRequest) →
+        SpellsRequest line block one → SpellsRequest line block other → one ≡ other }
 {}
 
 /// Knows which key-value lines ask for a block.

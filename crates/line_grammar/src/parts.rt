@@ -1,4 +1,4 @@
-//! Single words of a line: numbers, exptimes and keys.
+//! Single words of a line: keys, numbers and exptimes.
 ghost use Rattle.std.specs.Prelude.{◌≡◌, ◌≤◌, ◌+◌, IfSome};
 ghost use Rattle.arc_core.specs.Words.{number_below, key_word};
 ghost use Rattle.arc_core.specs.KeyValueGrammar.{zero_exptime};
@@ -13,13 +13,11 @@ const MAX_DIGITS: usize = 20;
 pub fn key(word: &[u8]) -> Option<KeyRef<'_>>
     ensures { result ≡ key_word word.now }
 {
-    match KeyRef::read(word) {
-        Ok(key) => Some(key),
-        Err(_) => None,
-    }
+    KeyRef::read(word).ok()
 }
 
 /// Reads a word as a number of at most `most`: 1 to 20 decimal digits, of which leading zeros count for nothing.
+/// (This server's own rule; memcached reads numbers as the C library does.)
 #[tactic(auto, unfolding(arc_core::specs::Words::number_below))]
 pub fn number(word: &[u8], most: u32) -> Option<u32>
     ensures value { result ≡ number_below (most + 1) word.now }
@@ -47,12 +45,6 @@ pub fn number(word: &[u8], most: u32) -> Option<u32>
 pub fn exptime(word: &[u8]) -> Option<i64>
     ensures { result ≡ zero_exptime word.now }
 {
-    let digits = match word {
-        [b'-', digits @ ..] => digits,
-        _ => word,
-    };
-    match number(digits, 0) {
-        Some(_) => Some(0),
-        None => None,
-    }
+    let digits = word.strip_prefix(b"-").unwrap_or(word);
+    number(digits, 0).map(i64::from)
 }
