@@ -3,3 +3,4 @@ pub mod Sending
 pub mod Telling
 pub mod Histories
 pub mod Going
+pub mod Ending

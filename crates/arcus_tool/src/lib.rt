@@ -2,7 +2,10 @@
 #![tactic(auto)]
 
 mod output;
+mod sessions;
+mod status;
 mod texts;
 mod units;
 
 pub use output::Unsent;
+pub use status::Status;

@@ -3,6 +3,8 @@ ghost use Rattle.std.specs.Prelude.{◌≡◌, ◌≢◌, ℕ, List, ◌++◌, A
 ghost use Rattle.std.specs.List.{AllZip};
 ghost use Rattle.arc_core.specs.declared.outside.Need.{Need};
 ghost use Rattle.arc_core.specs.Framing.{Whole, line_too_long, IsSpan, IsRest, BeginsWith, Cuts};
+ghost use Rattle.std.specs.Prelude.{MatchOption};
+ghost use Rattle.frame_reader.specs.Progress.{Progress, StandsFor, ready_unit};
 ghost use Rattle.frame_reader.specs.Cutting.{Agree};
 
 /// A law: two cuts of the same bytes have the same rest and the same units one by one, but that a block for which
@@ -42,4 +44,11 @@ pub fn cut_follows()
     ensures { (needs : List ℕ → Need) (bytes : List ℕ) (units later : List Whole) (tail rest : List ℕ)
         → BeginsWith needs bytes units tail → All (λ unit. unit ≢ line_too_long) units
         → Cuts needs tail later rest → Cuts needs bytes (units ++ later) rest }
+{}
+
+/// A law: the bytes that a reader has taken of its unit are the span of the unit that is ready, or, where none is, an
+/// unfinished unit.
+pub fn reader_stands_for_a_unit()
+    ensures { (needs : List ℕ → Need) (progress : Progress) (bytes : List ℕ) → StandsFor needs progress bytes
+        → MatchOption (ready_unit progress) (IsRest needs bytes) (λ unit. IsSpan needs bytes unit) }
 {}

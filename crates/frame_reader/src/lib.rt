@@ -8,7 +8,8 @@ mod turns;
 mod units;
 
 pub use laws::{
-    any_bytes_are_cut, cut_follows, cuts_agree, rest_begins_with_no_unit, units_follow, units_stay,
+    any_bytes_are_cut, cut_follows, cuts_agree, reader_stands_for_a_unit, rest_begins_with_no_unit,
+    units_follow, units_stay,
 };
 pub use reader::Frames;
 pub use units::Unit;
