@@ -25,11 +25,14 @@ went_by from to taken units tail tail' same went = subst (Went from to taken uni
 -- the reader has taken bytes from the front of those that were behind its tail
 pub goes_on_fed : (from to : Stand) (taken : List ℕ) (progress progress' : Progress) (behind : List ℕ) (n : ℕ)
     → ((bytes : List ℕ) → StandsFor line_needs progress bytes → StandsFor line_needs progress' (bytes ++ take n behind)) → GoesOn from to taken progress behind → GoesOn from to taken progress' (drop n behind)
-goes_on_fed from to taken progress progress' behind n stands is =
-    (is.0, is.1 ++ take n behind,
-     went_by from to taken is.0 (is.1 ++ behind) ((is.1 ++ take n behind) ++ drop n behind)
-       (ap (λ b. is.1 ++ b) (sym (take-append-drop n behind)) ∙ sym (append_assoc is.1 (take n behind) (drop n behind))) is.2,
-     stands is.1 is.3, is.4)
+goes_on_fed from to taken progress progress' behind n stands is = (
+  is.0,
+  is.1 ++ take n behind,
+  went_by from to taken is.0 (is.1 ++ behind) ((is.1 ++ take n behind) ++ drop n behind)
+      (ap (λ b. is.1 ++ b) (sym (take-append-drop n behind)) ∙ sym (append_assoc is.1 (take n behind) (drop n behind))) is.2,
+  stands is.1 is.3,
+  is.4,
+)
 
 module _ (from middle to : Stand) (taken : List ℕ) (units : List Whole) (unit : Whole) (span rest : List ℕ) (went : Went from middle taken units (span ++ rest)) (is_span : IsSpan line_needs span unit) where
   -- the next unit was told whole

@@ -48,12 +48,22 @@ none_on (first ∷ units) unit is next = (is.0, none_on units unit is.1 next)
 -- what a unit behind others tells
 pub tells_on : (units : List Whole) (unit : Whole) (entries own : List Entry) (text said : List ℕ) → Tells true units entries text → TellsUnit unit own said → Tells true (units ++ unit ∷ []) (entries ++ own) (text ++ said)
 tells_on [] unit entries own text said is next = (
-  own, [], said, [],
-  ap (λ e. e ++ own) is.0 ∙ sym (append-nil own), ap (λ t. t ++ said) is.1 ∙ sym (append-nil said),
-  next, (refl, refl),
+  own,
+  [],
+  said,
+  [],
+  ap (λ e. e ++ own) is.0 ∙ sym (append-nil own),
+  ap (λ t. t ++ said) is.1 ∙ sym (append-nil said),
+  next,
+  (refl, refl),
 )
 tells_on (first ∷ units) unit entries own text said is next = (
-  is.0, is.1 ++ own, is.2, is.3 ++ said,
-  ap (λ e. e ++ own) is.4 ∙ append_assoc is.0 is.1 own, ap (λ t. t ++ said) is.5 ∙ append_assoc is.2 is.3 said,
-  is.6, tells_on units unit is.1 own is.3 said is.7 next,
+  is.0,
+  is.1 ++ own,
+  is.2,
+  is.3 ++ said,
+  ap (λ e. e ++ own) is.4 ∙ append_assoc is.0 is.1 own,
+  ap (λ t. t ++ said) is.5 ∙ append_assoc is.2 is.3 said,
+  is.6,
+  tells_on units unit is.1 own is.3 said is.7 next,
 )

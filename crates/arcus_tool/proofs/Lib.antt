@@ -4,3 +4,4 @@ pub mod Telling
 pub mod Histories
 pub mod Going
 pub mod Ending
+pub mod Beginning

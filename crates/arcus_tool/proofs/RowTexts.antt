@@ -11,9 +11,9 @@ module _ {X : Type 0} (f : X → List ℕ) where
   texts_more text xs i x in' is =
       append_assoc text (flat_map f (take i xs)) (f x)
       ∙ ap (λ t. text ++ t) (ap (λ y. flat_map f (take i xs) ++ f y) is
-        ∙ ap (λ t. flat_map f (take i xs) ++ t) (sym (append-nil (f (get_or xs i x))))
-        ∙ sym (flat_map-append f (take i xs) (get_or xs i x ∷ []))
-        ∙ ap (flat_map f) (sym (take_more xs i x in')))
+      ∙ ap (λ t. flat_map f (take i xs) ++ t) (sym (append-nil (f (get_or xs i x))))
+      ∙ sym (flat_map-append f (take i xs) (get_or xs i x ∷ []))
+      ∙ ap (flat_map f) (sym (take_more xs i x in')))
 
   -- the rows behind this one complete the text
   pub texts_all : (text : List ℕ) (xs : List X) (i : ℕ) (x : X) → i < length xs → x ≡ get_or xs i x → ((text ++ flat_map f (take i xs)) ++ f x) ++ flat_map f (drop (suc i) xs) ≡ text ++ flat_map f xs

@@ -22,12 +22,17 @@ pub told_request : (from to : Stand) (request done : PlainRequest) (reply : Repl
     → Ticks from.coming second to.coming → Executes from.state second done reply to.state → SendsBetween from to (reply_text reply) result → IsTold (TellsRequest request) from to result
 told_request from to request done reply second result same ticks executes sends =
     let entry : Entry = record { seat = 0; session = 0; second = second; request = request; reply = reply } in
-    let executed : Executes from.state second request reply to.state = subst (λ r. Executes from.state second r reply to.state) same executes in
-    (entry ∷ [], reply_text reply, (entry, refl, refl, refl), record {
-      legal = (to.state, executed, refl);
-      seconds = (to.coming, ticks, refl);
-      own = (record { seat = refl; session = refl }, tt);
-    }, sends)
+    let executed : Executes from.state second request reply to.state = subst (λ r. Executes from.state second r reply to.state) same executes in (
+      entry ∷ [],
+      reply_text reply,
+      (entry, refl, refl, refl),
+      record {
+        legal = (to.state, executed, refl);
+        seconds = (to.coming, ticks, refl);
+        own = (record { seat = refl; session = refl }, tt);
+      },
+      sends,
+    )
 
 -- the request is that of a line and its block
 pub told_head : (from to : Stand) (line block : List ℕ) (head : Head) (result : Result Unit Unsent) → IsHead line head → IsBlockFor head.command block

@@ -64,7 +64,7 @@ abbrev pub TellsLine : List ℕ → List ℕ → List Entry → List ℕ → Typ
 TellsLine line block entries text =
     ((entry : Entry) × SpellsRequest line block entry.request × (entries ≡ entry ∷ []) × (text ≡ reply_text entry.reply))
     ⊎ ((line_needs line ≡ need.Nothing) × (answer : Word) × ((IsUnknown line × (answer ≡ word.Unknown)) ⊎ (IsBadFormat line × (answer ≡ word.BadFormat)))
-      × (entries ≡ []) × (text ≡ word_line answer))
+    × (entries ≡ []) × (text ≡ word_line answer))
 
 -- The line asks for no block and there is none, or it asks for one of this length, within its limit.
 abbrev pub HasItsBlock : List ℕ → List ℕ → Type 0

@@ -1,5 +1,5 @@
 -- What a whole session is: from the bytes that are taken to the bytes that are sent, with the status that it ends with.
-use Rattle.std.specs.Prelude.{◌≡◌, ◌⊎◌, ℕ, ◌^◌, ◌<◌, ◌≤◌, Bool, true, false, List, [], ◌∷◌, ◌++◌, length, Option, IfSome}
+use Rattle.std.specs.Prelude.{◌≡◌, ◌⊎◌, ℕ, ◌^◌, ◌<◌, ◌≤◌, Bool, true, false, List, [], ◌∷◌, ◌++◌, length, Option, None, IfSome}
 use Rattle.std.specs.List.{AllByRecursion}
 use Rattle.arc_core.specs.Outside.{Rose, first_then, then_sent}
 use Rattle.arc_core.specs.Framing.{Whole, BeginsWith, IsLast}
@@ -7,7 +7,7 @@ use Rattle.arc_core.specs.Grammar.{line_needs}
 use Rattle.arc_core.specs.CacheState.{CacheState}
 use Rattle.arc_core.specs.History.{Entry, Replays}
 use Rattle.arc_core.specs.SessionText.{Tells}
-use Rattle.frame_reader.specs.Progress.{Progress}
+use Rattle.frame_reader.specs.Progress.{Progress, StandsFor, ready_unit}
 use Rattle.arcus_tool.specs.Output.{IsSentInPart}
 use Rattle.arcus_tool.specs.Handling.{Stand, stand, TicksThrough, IsOwn, GoesOn, EndsTooLong, IsBetweenUnits}
 use Rattle.arcus_tool.specs.declared.status.Status.{Status}
@@ -155,3 +155,9 @@ TurnKeeps most progress waiting (turn.Over ended) = Unit {0}
 abbrev pub status_at_end : List ℕ → Status
 status_at_end [] = status.Done
 status_at_end (byte ∷ bytes) = status.CutInput (length (byte ∷ bytes))
+
+-- The reader and the outbox have taken no byte.
+pub record IsFresh (progress : Progress) (waiting : List ℕ) : Type 0 where
+  pub stands : StandsFor line_needs progress []
+  pub waits : ready_unit progress ≡ None
+  pub empty : waiting ≡ []

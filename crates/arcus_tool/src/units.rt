@@ -135,11 +135,11 @@ fn take_unit<E: Executor, C: Clock, K: Sink>(
     ensures count { IfOk result (λ count. (0 < count) × (count ≤ length piece.now)) }
     ensures at_end { OnOk result (IsBetweenUnits frames.new out.new) }
     ensures goes { (from : Stand) (taken : List ℕ) → GoesOn from
-            (stand (E.state exec.old) (C.coming clock.old) (K.sent sink.old) (K.write_faults sink.old) (K.refusals sink.old))
-            taken frames.old piece.now
+        (stand (E.state exec.old) (C.coming clock.old) (K.sent sink.old) (K.write_faults sink.old) (K.refusals sink.old))
+        taken frames.old piece.now
         → Takes from
-            (stand (E.state exec.new) (C.coming clock.new) (K.sent sink.new) (K.write_faults sink.new) (K.refusals sink.new))
-            taken frames.new piece.now result }
+        (stand (E.state exec.new) (C.coming clock.new) (K.sent sink.new) (K.write_faults sink.new) (K.refusals sink.new))
+        taken frames.new piece.now result }
 {
     let count = frames.feed(piece);
     match frames.unit() {
@@ -171,11 +171,11 @@ pub fn take_piece<E: Executor, C: Clock, K: Sink>(
     requires { IsBetweenUnits frames.old out.old }
     ensures at_end { OnOk result (IsBetweenUnits frames.new out.new) }
     ensures goes { (from : Stand) (taken : List ℕ) → GoesOn from
-            (stand (E.state exec.old) (C.coming clock.old) (K.sent sink.old) (K.write_faults sink.old) (K.refusals sink.old))
-            taken frames.old piece.now
+        (stand (E.state exec.old) (C.coming clock.old) (K.sent sink.old) (K.write_faults sink.old) (K.refusals sink.old))
+        taken frames.old piece.now
         → TakesAll from
-            (stand (E.state exec.new) (C.coming clock.new) (K.sent sink.new) (K.write_faults sink.new) (K.refusals sink.new))
-            taken frames.new result }
+        (stand (E.state exec.new) (C.coming clock.new) (K.sent sink.new) (K.write_faults sink.new) (K.refusals sink.new))
+        taken frames.new result }
 {
     let mut rest = piece;
     while !rest.is_empty() {

@@ -26,8 +26,8 @@ loop-row-preserved g c =
     let counts = c.in_ok-put_row.ensures (g.K.Sink.sent c.loop-row.sink) c.loop-row.out (all_gathered _ c.loop-row.out) in
     record {
       gathered = λ start text was.
-        let puts = c.in_ok-put_row.ensures start (text ++ flat_map row_text (take i rows)) (so_far.gathered start text was) in
-        subst (IsGathered start _ c.put_row.new.out) (texts_more row_text text rows i c.row-item.result inside c.row-item.is) puts.0;
+          let puts = c.in_ok-put_row.ensures start (text ++ flat_map row_text (take i rows)) (so_far.gathered start text was) in
+          subst (IsGathered start _ c.put_row.new.out) (texts_more row_text text rows i c.row-item.result inside c.row-item.is) puts.0;
       faults = counts.1 ∙ so_far.faults;
       refusals = counts.2 ∙ so_far.refusals;
     }

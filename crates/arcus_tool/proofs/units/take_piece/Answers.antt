@@ -2,7 +2,6 @@ use Rattle.std.proofs.Common.{◌≡◌, ◌++◌, [], ap, sym, subst, drop, len
 use Rattle.std.proofs.lemmas.Result.{err_from_is_err_and}
 use Rattle.arcus_tool.specs.Handling.{Stand, GoesOn}
 use Rattle.arcus_tool.proofs.Sending.{take_rest, is_empty_list}
-
 use Rattle.arcus_tool.proofs.units.take_piece.Goals as goal
 
 pub returns-in_err-count-clause-goes : goal.returns-in_err-count-clause-goes
@@ -14,7 +13,7 @@ pub loop-rest-preserved : goal.loop-rest-preserved
 loop-rest-preserved g c = record {
   between = c.in_ok-count.ensures.at_end;
   goes = λ from taken went.
-    rw (take_rest c.loop-rest.rest.now c.in_ok-count.count) (c.in_ok-count.ensures.goes from taken (c.loop-rest.invariant.goes from taken went));
+      rw (take_rest c.loop-rest.rest.now c.in_ok-count.count) (c.in_ok-count.ensures.goes from taken (c.loop-rest.invariant.goes from taken went));
 }
 
 pub returns-clause-goes : goal.returns-clause-goes

@@ -11,7 +11,7 @@ invariant-loop-rest g l =
     record {
       between : IsBetweenUnits l.frames l.out;
       goes : (from : Stand) (taken : List ℕ) → GoesOn from (stand (exec.state l.fn.exec) (clock.coming l.fn.clock) (sink.sent l.fn.sink) (sink.write_faults l.fn.sink) (sink.refusals l.fn.sink)) taken l.fn.frames l.piece
-        → GoesOn from (stand (exec.state l.exec) (clock.coming l.clock) (sink.sent l.sink) (sink.write_faults l.sink) (sink.refusals l.sink)) taken l.frames l.rest;
+          → GoesOn from (stand (exec.state l.exec) (clock.coming l.clock) (sink.sent l.sink) (sink.write_faults l.sink) (sink.refusals l.sink)) taken l.frames l.rest;
     }
 
 abbrev pub decreases-loop-rest : goal.decreases-loop-rest

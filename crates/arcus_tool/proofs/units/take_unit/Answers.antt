@@ -17,8 +17,8 @@ returns-in-Err g c = record {
   count = tt;
   at_end = tt;
   goes = λ from taken went.
-    let fed = goes_on_fed from _ taken _ c.feed-count.new.self c.args.piece.now c.feed-count.result c.feed-count.ensures.stands went in
-    broke_next from _ _ taken _ c.feed-count.new.self fed (whole_of c.unit.result) c.in-Err.cause (not_waiting c.unit.result c.in_default.not-Wait) c.unit.ensures.span c.in-Err.ensures.told;
+      let fed = goes_on_fed from _ taken _ c.feed-count.new.self c.args.piece.now c.feed-count.result c.feed-count.ensures.stands went in
+      broke_next from _ _ taken _ c.feed-count.new.self fed (whole_of c.unit.result) c.in-Err.cause (not_waiting c.unit.result c.in_default.not-Wait) c.unit.ensures.span c.in-Err.ensures.told;
 }
 
 pub returns : goal.returns
@@ -26,6 +26,6 @@ returns g c = record {
   count = (c.feed-count.ensures.some c.requires.at_start.waits c.requires.some, c.feed-count.ensures.within);
   at_end = record { waits = c.done.ensures.waits; empty = c.in_default-answer_unit.ensures.empty; tail = []; stands = c.done.ensures.stands };
   goes = λ from taken went.
-    let fed = goes_on_fed from _ taken _ c.feed-count.new.self c.args.piece.now c.feed-count.result c.feed-count.ensures.stands went in
-    told_next from _ _ taken _ c.feed-count.new.self fed c.done.new.self (whole_of c.unit.result) (not_waiting c.unit.result c.in_default.not-Wait) c.unit.ensures.span c.in_default-answer_unit.ensures.told c.done.ensures.stands (not_too_long c.unit.result c.in_default.not-LineTooLong);
+      let fed = goes_on_fed from _ taken _ c.feed-count.new.self c.args.piece.now c.feed-count.result c.feed-count.ensures.stands went in
+      told_next from _ _ taken _ c.feed-count.new.self fed c.done.new.self (whole_of c.unit.result) (not_waiting c.unit.result c.in_default.not-Wait) c.unit.ensures.span c.in_default-answer_unit.ensures.told c.done.ensures.stands (not_too_long c.unit.result c.in_default.not-LineTooLong);
 }
