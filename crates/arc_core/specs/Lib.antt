@@ -1,7 +1,12 @@
+pub mod BkeyLaws
+pub mod BkeyOrder
+pub mod BkeyText
 pub mod CacheState
+pub mod Filter
 pub mod Framing
 pub mod Grammar
 pub mod Growth
+pub mod HexText
 pub mod History
 pub mod Item
 pub mod Key
@@ -13,6 +18,8 @@ pub mod ReplyText
 pub mod Room
 pub mod Rows
 pub mod SessionText
+pub mod ShortBytes
 pub mod Step
 pub mod Words
+pub mod WorkedFilters
 pub mod WorkedRows
