@@ -5,7 +5,10 @@ mod output;
 mod sessions;
 mod status;
 mod texts;
+mod top;
 mod units;
 
 pub use output::Unsent;
+pub use sessions::session;
 pub use status::Status;
+pub use top::{World, run};
