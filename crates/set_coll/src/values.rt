@@ -20,15 +20,15 @@ pub struct SetColl {
 }
 
 impl Model for SetColl {
-    ghost use Rattle.std.specs.Prelude.{◌-◌, ◌≤◌, length, map, min};
-    ghost use Rattle.indexmap.specs.IndexSet as set;
-    ghost use Rattle.set_coll.specs.SetContents.{SetContents};
+    ghost use Rattle.std.specs.Prelude.{◌≤◌, length, map};
+    ghost use Rattle.indexmap.specs.IndexSet.{spare};
+    ghost use Rattle.set_coll.specs.SetContents.{SetContents, most_values, room_of};
 
     ghost Value = { SetContents };
 
-    ghost view = { λ it. record { values = map (λ v. v.items) it.table.keys; spare = min (set.spare it.table) (4_294_967_295 - length it.table.keys) } };
+    ghost view = { λ it. record { values = map (λ v. v.items) it.table.keys; spare = room_of (length it.table.keys) (spare it.table) } };
 
-    ghost invariant = { λ it. length it.table.keys ≤ 4_294_967_295 };
+    ghost invariant = { λ it. length it.table.keys ≤ most_values };
 }
 
 impl SetColl {
@@ -36,7 +36,9 @@ impl SetColl {
     pub fn new(alloc: Global) -> SetColl
         ensures { result.values ≡ [] }
     {
-        SetColl { table: IndexSet::new(alloc) }
+        SetColl {
+            table: IndexSet::new(alloc),
+        }
     }
 
     /// The number of values, which are distinct.
