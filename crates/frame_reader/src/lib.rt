@@ -1,0 +1,15 @@
+//! Cuts a stream of bytes that comes in any pieces into units: a line, or a line with its block.
+#![tactic(auto)]
+
+mod laws;
+mod phases;
+mod reader;
+mod turns;
+mod units;
+
+pub use laws::{any_bytes_are_cut, cuts_agree, rest_begins_with_no_unit};
+pub use reader::Frames;
+pub use units::Unit;
+
+#[cfg(test)]
+mod tests;
