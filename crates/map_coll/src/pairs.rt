@@ -24,16 +24,16 @@ pub struct MapColl {
 }
 
 impl Model for MapColl {
-    ghost use Rattle.std.specs.Prelude.{◌-◌, ◌≤◌, length, map, min, All};
+    ghost use Rattle.std.specs.Prelude.{◌≤◌, length, map, All};
     ghost use Rattle.arc_core.specs.Key.{IsKey};
     ghost use Rattle.indexmap.specs.IndexMap.{spare};
-    ghost use Rattle.map_coll.specs.MapContents.{MapContents};
+    ghost use Rattle.map_coll.specs.MapContents.{MapContents, most_pairs, room_of};
 
     ghost Value = { MapContents };
 
-    ghost view = { λ it. record { pairs = map (λ e. (e.0.items, e.1)) it.table.entries; spare = min (spare it.table) (4_294_967_295 - length it.table.entries) } };
+    ghost view = { λ it. record { pairs = map (λ e. (e.0.items, e.1)) it.table.entries; spare = room_of (length it.table.entries) (spare it.table) } };
 
-    ghost invariant = { λ it. (length it.table.entries ≤ 4_294_967_295) × All (λ e. IsKey e.0.items) it.table.entries };
+    ghost invariant = { λ it. (length it.table.entries ≤ most_pairs) × All (λ e. IsKey e.0.items) it.table.entries };
 }
 
 impl MapColl {
@@ -41,7 +41,9 @@ impl MapColl {
     pub fn new(alloc: Global) -> MapColl
         ensures { result.pairs ≡ [] }
     {
-        MapColl { table: IndexMap::new(alloc) }
+        MapColl {
+            table: IndexMap::new(alloc),
+        }
     }
 
     /// The number of pairs, whose fields are distinct.

@@ -7,9 +7,10 @@ use Rattle.map_coll.proofs.pairs.MapColl.remove.Goals as goal
 
 pub invariant_of-self : goal.invariant_of-self
 invariant_of-self c =
-    let fields = All-remove (λ e. IsKey e.0.items) c.self.inside.table.entries c.args.place c.self.invariant.1 in
-    (omega (arith, c.shift_remove_index.ensures.len, c.self.invariant.0),
-     subst (All (λ e. IsKey e.0.items)) (sym c.shift_remove_index.ensures.entries) fields)
+    let fields = All-remove (λ e. IsKey e.0.items) c.self.inside.table.entries c.args.place c.self.invariant.1 in (
+      omega (arith, c.shift_remove_index.ensures.len, c.self.invariant.0),
+      subst (All (λ e. IsKey e.0.items)) (sym c.shift_remove_index.ensures.entries) fields,
+    )
 
 pub returns-clause-pairs : goal.returns-clause-pairs
 returns-clause-pairs c =
