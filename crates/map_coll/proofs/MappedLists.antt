@@ -1,5 +1,5 @@
 -- A list `ys` that shows what a function gives of each element of another list `xs`.
-use Rattle.std.proofs.Common.{◌≡◌, ℕ, Bool, true, false, cond, not, ◌||◌, ltb, suc, ◌+◌, ◌++◌, List, [], ◌∷◌, map, length, position, remove, drop, min, ◌≤◌, if◌then◌else◌, Option, None, Some, Result, Ok, IfOk, inl, inr, refl, sym, ap, subst, ◌∙◌, arith}
+use Rattle.std.proofs.Common.{◌≡◌, ℕ, Bool, true, false, cond, not, ◌||◌, ltb, suc, ◌+◌, ◌++◌, List, [], ◌∷◌, map, length, position, remove, drop, min, None, Some, inl, inr, refl, sym, ap, subst, ◌∙◌, arith}
 use Rattle.std.specs.List.{prefix_len, position_or_len, list_any, AllByRecursion, IsDistinct, remove_range}
 use Rattle.std.proofs.lemmas.Bool.{cases_lt}
 use Rattle.std.proofs.lemmas.Bool.Decides.{nat_tests}
@@ -13,7 +13,7 @@ list_any-position p (x ∷ xs) =
     [ true ↦ grind (arith, nat_tests) | false ↦ list_any-position p xs ∙ grind (arith, nat_tests) ]
 
 -- where no place passes, no element does
-list_any-position_None : {X : Type 0} (p : X → Bool) (xs : List X) → position p xs ≡ None → list_any p xs ≡ false
+pub list_any-position_None : {X : Type 0} (p : X → Bool) (xs : List X) → position p xs ≡ None → list_any p xs ≡ false
 list_any-position_None p xs none = list_any-position p xs ∙ by (ltb (position_or_len p xs) (length xs)) none
   where
     by : (b : Bool) → cond b (Some (position_or_len p xs)) None ≡ None → b ≡ false

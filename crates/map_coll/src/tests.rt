@@ -1,6 +1,6 @@
 //! A map as its commands use it, and what its removals leave.
 use crate::MapColl;
-use arc_core::{Key, KeyRef, NoMemory, Value};
+use arc_core::{Key, KeyRef, KeyWords, NoMemory, Value};
 use std::alloc::Global;
 use std::process::Abort;
 use std::test::Fail;
@@ -43,6 +43,26 @@ fn keeps_the_order_of_what_is_left(rt: HostRuntime) -> Result<(), Fail> {
     add(&rt, alloc, &mut map, b"f", b"3")?;
     map.remove_all();
     assert_eq!(rt; map.place_of(b"f"), None);
+    Ok(())
+}
+
+#[test]
+fn removes_named_fields_at_once(rt: HostRuntime) -> Result<(), Fail> {
+    let alloc = rt.alloc();
+    let mut map = MapColl::new(alloc);
+    for field in [b"a", b"b", b"c", b"d", b"e"] {
+        add(&rt, alloc, &mut map, field, b"1")?;
+    }
+    let fields = KeyWords::read(b"d x a d", 4).ok_or("words")?;
+    map.remove_fields(&fields);
+    assert_eq!(rt; text(alloc, &map)?.as_slice(), b"b=1 c=1 e=1 ".as_slice());
+    assert_eq!(rt; map.place_of(b"e"), Some(2));
+    assert_eq!(rt; map.place_of(b"d"), None);
+    add(&rt, alloc, &mut map, b"d", b"2")?;
+    assert_eq!(rt;
+        text(alloc, &map)?.as_slice(),
+        b"b=1 c=1 e=1 d=2 ".as_slice()
+    );
     Ok(())
 }
 
