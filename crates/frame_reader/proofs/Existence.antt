@@ -99,7 +99,7 @@ rest_or_unit needs bytes = ⊎_elim
     (lf_or_none bytes)
 
 -- A unit is put before what is cut behind it.
-put_first : (needs : List ℕ → Need) (unit : Whole) (units : List Whole) (tail : List ℕ) → IsLast needs units tail → ((unit ≡ whole.line_too_long) → ⊥) → IsLast needs (unit ∷ units) tail
+pub put_first : (needs : List ℕ → Need) (unit : Whole) (units : List Whole) (tail : List ℕ) → IsLast needs units tail → ((unit ≡ whole.line_too_long) → ⊥) → IsLast needs (unit ∷ units) tail
 put_first needs (whole.line text) units tail last other = last
 put_first needs (whole.line_with_block text block) units tail last other = last
 put_first needs (whole.bad_chunk text) units tail last other = last

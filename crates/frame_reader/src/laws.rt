@@ -1,12 +1,12 @@
 //! Laws of the framing, each the contract of a function that does nothing.
-ghost use Rattle.std.specs.Prelude.{◌≡◌, ℕ, List, ◌++◌};
+ghost use Rattle.std.specs.Prelude.{◌≡◌, ◌≢◌, ℕ, List, ◌++◌, All};
 ghost use Rattle.std.specs.List.{AllZip};
 ghost use Rattle.arc_core.specs.declared.outside.Need.{Need};
-ghost use Rattle.arc_core.specs.Framing.{Whole, IsSpan, IsRest, Cuts};
+ghost use Rattle.arc_core.specs.Framing.{Whole, line_too_long, IsSpan, IsRest, BeginsWith, Cuts};
 ghost use Rattle.frame_reader.specs.Cutting.{Agree};
 
-/// A law: two cuts of the same bytes have the same rest, and their units are the same one by one, but for want of
-/// memory.
+/// A law: two cuts of the same bytes have the same rest and the same units one by one, but that a block for which
+/// there was no memory may stand in place of the line with its block or with its bad chunk.
 pub fn cuts_agree()
     ensures { (needs : List ℕ → Need) (bytes : List ℕ) (units others : List Whole) (rest other : List ℕ)
         → Cuts needs bytes units rest → Cuts needs bytes others other → AllZip Agree units others × (rest ≡ other) }
@@ -20,5 +20,26 @@ pub fn rest_begins_with_no_unit()
 
 /// A law: any bytes are cut into units and a rest.
 pub fn any_bytes_are_cut()
-    ensures { (needs : List ℕ → Need) (bytes : List ℕ) → (units : List Whole) × (rest : List ℕ) × Cuts needs bytes units rest }
+    ensures { (needs : List ℕ → Need) (bytes : List ℕ)
+        → (units : List Whole) × (rest : List ℕ) × Cuts needs bytes units rest }
+{}
+
+/// A law: bytes that come later stand behind the tail, and change no unit before it.
+pub fn units_stay()
+    ensures { (needs : List ℕ → Need) (bytes : List ℕ) (units : List Whole) (tail more : List ℕ)
+        → BeginsWith needs bytes units tail → BeginsWith needs (bytes ++ more) units (tail ++ more) }
+{}
+
+/// A law: units of the tail stand behind the units before it.
+pub fn units_follow()
+    ensures { (needs : List ℕ → Need) (bytes : List ℕ) (units later : List Whole) (tail rest : List ℕ)
+        → BeginsWith needs bytes units tail → BeginsWith needs tail later rest
+        → BeginsWith needs bytes (units ++ later) rest }
+{}
+
+/// A law: where no unit is too long a line, a cut of the tail behind the units makes a cut of the whole.
+pub fn cut_follows()
+    ensures { (needs : List ℕ → Need) (bytes : List ℕ) (units later : List Whole) (tail rest : List ℕ)
+        → BeginsWith needs bytes units tail → All (λ unit. unit ≢ line_too_long) units
+        → Cuts needs tail later rest → Cuts needs bytes (units ++ later) rest }
 {}

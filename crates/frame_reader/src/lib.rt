@@ -7,7 +7,9 @@ mod reader;
 mod turns;
 mod units;
 
-pub use laws::{any_bytes_are_cut, cuts_agree, rest_begins_with_no_unit};
+pub use laws::{
+    any_bytes_are_cut, cut_follows, cuts_agree, rest_begins_with_no_unit, units_follow, units_stay,
+};
 pub use reader::Frames;
 pub use units::Unit;
 

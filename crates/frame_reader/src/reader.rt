@@ -42,7 +42,9 @@ impl<G: Heads> Model for Frames<G> {
 
     ghost view = { λ f. progress_of f.line.items f.block.items f.phase };
 
-    ghost invariant = { λ f. (65536 ≤ vec_capacity f.line) × (131072 ≤ vec_capacity f.block) × LeavesRoom (vec_len f.line) (vec_len f.block) f.phase };
+    // No buffer grows after `new`.
+    ghost invariant = { λ f. (65536 ≤ vec_capacity f.line) × (131072 ≤ vec_capacity f.block)
+        × LeavesRoom (vec_len f.line) (vec_len f.block) f.phase };
 }
 
 impl<G: Heads> Frames<G> {
@@ -121,7 +123,8 @@ impl<G: Heads> Frames<G> {
 
     /// How many bytes were taken of the unfinished unit, at most 4,295,032,832. It is 0 where a unit is ready.
     pub fn held(&self) -> u64
-        ensures bytes { (bytes : List ℕ) → ready_unit self.now ≡ None → StandsFor G.needs self.now bytes → result ≡ length bytes }
+        ensures bytes { (bytes : List ℕ) → ready_unit self.now ≡ None → StandsFor G.needs self.now bytes
+            → result ≡ length bytes }
         ensures ready { IsSome (ready_unit self.now) → result ≡ 0 }
     {
         let line = self.line.len() as u64;

@@ -16,7 +16,7 @@ pub(crate) const LINE_BYTES: usize = 65_536;
 /// The most bytes of a block with its CR LF that is kept.
 pub(crate) const BLOCK_BYTES: usize = 131_072;
 
-// Takes bytes of a line up to its LF, which is taken and not kept.
+// Takes bytes of a line up to its LF, which is taken and not kept. An LF past the longest line is not looked for.
 pub(crate) fn take_line<G: Heads>(heads: &G, line: &mut Vec<u8>, piece: &[u8]) -> (usize, Phase)
     requires unfinished { vec_len line.old < 65536 }
     requires capacity { 65536 ≤ vec_capacity line.old }
@@ -47,7 +47,8 @@ pub(crate) fn take_line<G: Heads>(heads: &G, line: &mut Vec<u8>, piece: &[u8]) -
 
 // The place of the first LF.
 fn place_of_lf(piece: &[u8]) -> Option<usize>
-    ensures { MatchOption result (HasNoLf piece.now) (λ place. (place < length piece.now) × HasNoLf (take place piece.now)
+    ensures { MatchOption result (HasNoLf piece.now)
+        (λ place. (place < length piece.now) × HasNoLf (take place piece.now)
         × (take (place + 1) piece.now ≡ take place piece.now ++ 10 ∷ [])) }
 {
     memchr(b'\n', piece)
@@ -60,7 +61,7 @@ pub(crate) fn without_cr(line: &[u8]) -> &[u8]
     line.strip_suffix(b"\r").unwrap_or(line)
 }
 
-// Puts bytes behind those that are kept, for which there is room.
+// Puts bytes behind those that are kept. There is room for them, so no memory is taken and none is refused.
 fn append(kept: &mut Vec<u8>, bytes: &[u8])
     requires { vec_len kept.old + length bytes.now ≤ vec_capacity kept.old }
     ensures items { kept.new.items ≡ kept.old.items ++ bytes.now }
@@ -72,8 +73,9 @@ fn append(kept: &mut Vec<u8>, bytes: &[u8])
 // The phase behind a line that has this need.
 fn phase_behind(need: Need) -> Phase
     ensures room { (line : ℕ) → line < 65536 → LeavesRoom line 0 result }
-    ensures stands { (needs : List ℕ → Need) (bytes body : List ℕ) → needs (Framing.without_cr body) ≡ need → bytes ≡ body ++ 10 ∷ []
-        → IsLinePart body → StandsFor needs (progress_of body [] result) bytes }
+    ensures stands { (needs : List ℕ → Need) (bytes body : List ℕ)
+        → needs (Framing.without_cr body) ≡ need → bytes ≡ body ++ 10 ∷ [] → IsLinePart body
+        → StandsFor needs (progress_of body [] result) bytes }
 {
     let Need::Block { len, limit } = need else {
         return Phase::Ready(Kind::Line);
@@ -96,7 +98,7 @@ fn phase_behind(need: Need) -> Phase
     Phase::InBlock { len: len as usize }
 }
 
-// Takes bytes of a block of `len` bytes and its CR LF, which is taken and not kept where it stands there.
+// Takes bytes of a block of `len` bytes and the two bytes behind it, which are not kept where they are CR LF.
 pub(crate) fn take_block(block: &mut Vec<u8>, len: usize, piece: &[u8]) -> (usize, Phase)
     requires unfinished { vec_len block.old < len + 2 }
     requires short { len + 2 ≤ 131072 }
@@ -105,7 +107,8 @@ pub(crate) fn take_block(block: &mut Vec<u8>, len: usize, piece: &[u8]) -> (usiz
     ensures some { 0 < length piece.now → 0 < result.0 }
     ensures capacity { vec_capacity block.old ≤ vec_capacity block.new }
     ensures room { (line : ℕ) → line < 65536 → LeavesRoom line (vec_len block.new) result.1 }
-    ensures stands { (needs : List ℕ → Need) (bytes body : List ℕ) → StandsFor needs (in_block body len block.old.items) bytes
+    ensures stands { (needs : List ℕ → Need) (bytes body : List ℕ)
+        → StandsFor needs (in_block body len block.old.items) bytes
         → StandsFor needs (progress_of body block.new.items result.1) (bytes ++ take result.0 piece.now) }
 {
     let taken = piece.len().min(len + 2 - block.len());
@@ -135,7 +138,8 @@ pub(crate) fn pass_over(passed: u64, left: u64, kind: Kind, piece: &[u8]) -> (us
     ensures within { result.0 ≤ length piece.now }
     ensures some { 0 < length piece.now → 0 < result.0 }
     ensures room { (line block : ℕ) → line < 65536 → LeavesRoom line block result.1 }
-    ensures stands { (needs : List ℕ → Need) (bytes body block : List ℕ) → StandsFor needs (passing_over body passed left (unit_of body block kind)) bytes
+    ensures stands { (needs : List ℕ → Need) (bytes body block : List ℕ)
+        → StandsFor needs (passing_over body passed left (unit_of body block kind)) bytes
         → StandsFor needs (progress_of body block result.1) (bytes ++ take result.0 piece.now) }
 {
     let taken = (piece.len() as u64).min(left);
