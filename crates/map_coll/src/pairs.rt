@@ -33,17 +33,19 @@ struct Held {
 }
 
 impl Model for MapColl {
-    ghost use Rattle.std.specs.Prelude.{◌≡◌, ◌≤◌, length, All, false};
-    ghost use Rattle.arc_core.specs.Key.{IsKey};
+    ghost use Rattle.std.specs.Prelude.{◌≤◌, length};
     ghost use Rattle.indexmap.specs.IndexMap.{spare};
     ghost use Rattle.map_coll.specs.MapContents.{MapContents, most_pairs, room_of};
-    ghost use Rattle.map_coll.specs.TableEntries.{held_pairs};
+    ghost use Rattle.map_coll.specs.TableEntries.{held_pairs, AreAtRest};
 
     ghost Value = { MapContents };
 
-    ghost view = { λ it. record { pairs = held_pairs it.table.entries; spare = room_of (length it.table.entries) (spare it.table) } };
+    ghost view = { λ it. record {
+      pairs = held_pairs it.table.entries;
+      spare = room_of (length it.table.entries) (spare it.table);
+    } };
 
-    ghost invariant = { λ it. (length it.table.entries ≤ most_pairs) × All (λ e. IsKey e.0.items × (e.1.marked ≡ false)) it.table.entries };
+    ghost invariant = { λ it. (length it.table.entries ≤ most_pairs) × AreAtRest it.table.entries };
 }
 
 impl MapColl {

@@ -1,5 +1,5 @@
 -- A list `ys` that shows what a function gives of each element of another list `xs`.
-use Rattle.std.proofs.Common.{◌≡◌, ℕ, Bool, true, false, cond, not, ◌||◌, ltb, suc, ◌+◌, ◌++◌, List, [], ◌∷◌, map, length, position, remove, drop, min, ◌≤◌, if◌then◌else◌, Option, None, Some, Result, Ok, IfOk, inl, inr, refl, sym, ap, subst, ◌∙◌, arith}
+use Rattle.std.proofs.Common.{◌≡◌, ℕ, Bool, true, false, cond, not, ◌||◌, ltb, suc, ◌+◌, ◌++◌, List, [], ◌∷◌, map, length, position, remove, drop, min, if◌then◌else◌, None, Some, Result, Ok, IfOk, inl, inr, refl, sym, ap, subst, ◌∙◌, arith}
 use Rattle.std.specs.List.{prefix_len, position_or_len, list_any, AllByRecursion, IsDistinct, remove_range}
 use Rattle.indexmap.specs.IndexSet.{insert_key}
 use Rattle.std.proofs.lemmas.Bool.{cases_lt}

@@ -26,7 +26,10 @@ impl Model for SetColl {
 
     ghost Value = { SetContents };
 
-    ghost view = { λ it. record { values = map (λ v. v.items) it.table.keys; spare = room_of (length it.table.keys) (spare it.table) } };
+    ghost view = { λ it. record {
+      values = map (λ v. v.items) it.table.keys;
+      spare = room_of (length it.table.keys) (spare it.table);
+    } };
 
     ghost invariant = { λ it. length it.table.keys ≤ most_values };
 }
