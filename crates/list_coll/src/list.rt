@@ -71,12 +71,12 @@ impl ListColl {
         Ok(())
     }
 
-    /// What an insert at an index does in this list, which is full at `maxcount` elements, from 1 on (ARCUS's `lop insert`).
+    /// What an insert at an index does in this list, which is full at `maxcount` elements (ARCUS's `lop insert`).
     ///
-    /// An index at or above 0 is that place, up to the count; index -k is the place k - 1 before the end, so that -1 puts
-    /// last. `OutOfRange` comes for any other index. A full list answers `Overflowed` where its action is `Error`. Else
-    /// index 0 trims the tail, index -1 the head, and any other index the end that the action names, with `OutOfRange` where
-    /// the trimmed element would be the new one.
+    /// An index at or above 0 is that place, up to the count; index -k is the place k - 1 before the end, so that -1
+    /// puts last. `OutOfRange` comes for any other index. A full list answers `Overflowed` where its action is `Error`.
+    /// Else index 0 trims the tail, index -1 the head, and any other index the end that the action names, with
+    /// `OutOfRange` where the trimmed element would be the new one.
     pub fn plan(&self, index: i32, maxcount: u32, action: Action) -> ListPlan
         requires action { IsListAction action }
         requires maxcount { 1 ≤ maxcount }
@@ -99,9 +99,9 @@ impl ListColl {
 
     /// The part of the list that a range of indices names (ARCUS's `lop get` and `lop delete`).
     ///
-    /// An index at or above 0 is that place; index -k is the place k before the end, so that -1 is the last element. The part
-    /// goes up where the first place is at most the last, and else down. It has those places alone that the list has, and
-    /// `None` comes exactly where it has none. One index is the range from it to itself.
+    /// An index at or above 0 is that place; index -k is the place k before the end, so that -1 is the last element.
+    /// The part goes up where the first place is at most the last, and else down. It has those places alone that the
+    /// list has, and `None` comes exactly where it has none. One index is the range from it to itself.
     pub fn span(&self, range: IndexRange) -> Option<Part>
         ensures part { result ≡ span range (length self.now.values) }
         ensures within { IfSome result (λ part. (part.low ≤ part.high) × (part.high < length self.now.values)) }

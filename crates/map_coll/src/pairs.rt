@@ -1,5 +1,5 @@
 //! The pairs of a map.
-ghost use Rattle.std.specs.Prelude.{false, not, All, ◌≡◌, ◌+◌, ◌≤◌, ◌<◌, [], ◌∷◌, ◌++◌, length, remove, drop, slice_get, OnOk, OnErr};
+ghost use Rattle.std.specs.Prelude.{false, not, All, ◌≡◌, ◌+◌, ◌≤◌, ◌<◌, [], ◌∷◌, ◌++◌, length, remove, drop, slice_get, IfSome, OnOk, OnErr};
 ghost use Rattle.std.specs.Option.{option_map};
 ghost use Rattle.map_coll.specs.MapContents.{place_of, with_value_at, is_named, without, HaveDistinctFields};
 ghost use Rattle.map_coll.specs.TableEntries.{held_pairs};
@@ -84,7 +84,8 @@ impl MapColl {
 
     /// The place of a field's pair, counted from 0 in the order of insertion. Takes no memory.
     pub fn place_of(&self, field: &[u8]) -> Option<u32>
-        ensures { result ≡ place_of field.now self.now.pairs }
+        ensures place { result ≡ place_of field.now self.now.pairs }
+        ensures within { IfSome result (λ place. place < length self.now.pairs) }
     {
         let place = self.table.get_index_of(field)?;
         Some(place as u32)

@@ -1,5 +1,5 @@
 //! The values of a set.
-ghost use Rattle.std.specs.Prelude.{◌≡◌, ◌+◌, ◌≤◌, ◌<◌, [], ◌∷◌, ◌++◌, length, remove, drop, slice_get, OnOk, OnErr};
+ghost use Rattle.std.specs.Prelude.{◌≡◌, ◌+◌, ◌≤◌, ◌<◌, [], ◌∷◌, ◌++◌, length, remove, drop, slice_get, IfSome, OnOk, OnErr};
 ghost use Rattle.set_coll.specs.SetContents.{place_of, AreDistinct};
 
 use arc_core::NoMemory;
@@ -13,7 +13,8 @@ const MAX_VALUES: usize = 4_294_967_295;
 /// The values of a set.
 ///
 /// Contracts see it as the list of its distinct values, in the order of insertion, and `spare`, the number of further
-/// values for which it has room. It has room for at most 2^32 - 1 values in all, far above what a set may be made to hold.
+/// values for which it has room. It has room for at most 2^32 - 1 values in all, far above what a set may be made to
+/// hold.
 #[derive(Drop)]
 pub struct SetColl {
     table: IndexSet<Vec<u8>>,
@@ -70,7 +71,8 @@ impl SetColl {
 
     /// The place of a value, counted from 0 in the order of insertion. Takes no memory.
     pub fn place_of(&self, value: &[u8]) -> Option<u32>
-        ensures { result ≡ place_of value.now self.now.values }
+        ensures place { result ≡ place_of value.now self.now.values }
+        ensures within { IfSome result (λ place. place < length self.now.values) }
     {
         let place = self.table.get_index_of(value)?;
         Some(place as u32)
