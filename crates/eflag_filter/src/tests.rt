@@ -76,43 +76,39 @@ fn compares_the_part_byte_by_byte(rt: HostRuntime) {
 
 #[test]
 fn changes_flags(rt: HostRuntime) {
-    let low = Some(Eflag::of(&[0x0f]));
-    let all = Eflag::of(&[0xff]);
-    for (change, flag, expected) in [
-        // `0 | 0xf0` on 0x0f, then `0`, and then `0 & 0x01`
-        (
-            EflagChange::Combine(0, BitOp::Or, Eflag::of(&[0xf0])),
-            low,
-            Ok(Some(all)),
-        ),
-        (EflagChange::Remove, Some(all), Ok(None)),
-        (
-            EflagChange::Combine(0, BitOp::And, Eflag::of(&[0x01])),
-            None,
-            Err(EflagMismatch),
-        ),
-        (
-            EflagChange::Combine(1, BitOp::And, Eflag::of(&[0x01])),
-            low,
-            Err(EflagMismatch),
-        ),
-        (
-            EflagChange::Combine(0, BitOp::And, Eflag::of(&[1, 1])),
-            low,
-            Err(EflagMismatch),
-        ),
-        (
-            EflagChange::Combine(1, BitOp::Xor, Eflag::of(&[0xff])),
-            Some(Eflag::of(&[1, 2, 3])),
-            Ok(Some(Eflag::of(&[1, 0xfd, 3]))),
-        ),
-        (EflagChange::Keep, low, Ok(low)),
-        (EflagChange::Keep, None, Ok(None)),
-        (EflagChange::Put(all), None, Ok(Some(all))),
-        (EflagChange::Put(all), low, Ok(Some(all))),
-    ] {
-        assert_eq!(rt; changed(&change, &flag), expected, "{change:?} at {flag:?}");
-    }
+    // `0 | 0xf0` on 0x0f, then `0`, and then `0 & 0x01`
+    let or = EflagChange::Combine(0, BitOp::Or, Eflag::of(&[0xf0]));
+    check_change(&rt, &or, &[0x0f], Ok(Some(Eflag::of(&[0xff]))));
+    check_change(&rt, &EflagChange::Remove, &[0xff], Ok(None));
+    let and = EflagChange::Combine(0, BitOp::And, Eflag::of(&[0x01]));
+    check_change(&rt, &and, &[], Err(EflagMismatch));
+    // beyond the last byte, and up to a byte beyond it
+    let second = EflagChange::Combine(1, BitOp::And, Eflag::of(&[0x01]));
+    check_change(&rt, &second, &[0x0f], Err(EflagMismatch));
+    let two = EflagChange::Combine(0, BitOp::And, Eflag::of(&[1, 1]));
+    check_change(&rt, &two, &[0x0f], Err(EflagMismatch));
+    // the bytes before and behind the operand stay
+    let xor = EflagChange::Combine(1, BitOp::Xor, Eflag::of(&[0xff]));
+    check_change(&rt, &xor, &[1, 2, 3], Ok(Some(Eflag::of(&[1, 0xfd, 3]))));
+    check_change(&rt, &EflagChange::Keep, &[1], Ok(Some(Eflag::of(&[1]))));
+    check_change(&rt, &EflagChange::Keep, &[], Ok(None));
+    let put = EflagChange::Put(Eflag::of(&[7, 8]));
+    check_change(&rt, &put, &[], Ok(Some(Eflag::of(&[7, 8]))));
+    check_change(&rt, &put, &[1], Ok(Some(Eflag::of(&[7, 8]))));
+}
+
+// Checks what a change makes of the flag of these bytes, or of an element without a flag where there are none.
+fn check_change(
+    rt: &impl Abort,
+    change: &EflagChange,
+    bytes: &[u8],
+    expected: Result<Option<Eflag>, EflagMismatch>,
+) {
+    let flag = match bytes.len() {
+        1..=31 => Some(Eflag::of(bytes)),
+        _ => None,
+    };
+    assert_eq!(rt; changed(change, &flag), expected, "{change:?} at {bytes:?}");
 }
 
 #[test]
@@ -122,8 +118,7 @@ fn reads_one_to_a_hundred_values(rt: HostRuntime) {
         word[5 * i..5 * i + 4].copy_from_slice(b"0x01");
     }
     for (len, count) in [(4, Some(1)), (499, Some(100)), (500, None), (504, None)] {
-        let count_read = FlagWords::read(&word[..len]).map(|values| values.iter().count());
-        assert_eq!(rt; count_read, count, "{len} bytes");
+        assert_eq!(rt; value_count(&word[..len]), count, "{len} bytes");
     }
     for word in [
         "",
@@ -135,8 +130,17 @@ fn reads_one_to_a_hundred_values(rt: HostRuntime) {
         "0x01,02",
         "0x01 0x02",
     ] {
-        assert!(rt; FlagWords::read(word.as_bytes()).is_none(), "{word}");
+        assert_eq!(rt; value_count(word.as_bytes()), None, "{word}");
     }
+}
+
+// How many filter values a word spells, if it spells any.
+fn value_count(word: &[u8]) -> Option<u32> {
+    let mut count: u32 = 0;
+    for _ in FlagWords::read(word)?.iter() {
+        count = count.saturating_add(1);
+    }
+    Some(count)
 }
 
 // The filter values that a word spells.
