@@ -1,19 +1,18 @@
 -- Hexadecimal digits: which of them spell bytes, and what is wrong with the others.
-use Rattle.std.proofs.Common.{◌≡◌, ◌≢◌, ℕ, ◌+◌, ◌*◌, ◌%◌, ◌<◌, ◌≤◌, Bool, true, false, not, cond, eqb, ltb, leb, List, [], ◌∷◌, length, get_or, refl, sym, ap, inl, inr, ◌∙◌, arith, Option, Some, None, Result, Ok, Err}
-use Rattle.std.specs.Option.{ok_or, option_or}
+use Rattle.std.proofs.Common.{◌≡◌, ℕ, ◌%◌, ◌<◌, ◌≤◌, Bool, true, false, not, cond, eqb, ltb, leb, List, length, get_or, refl, sym, inl, inr, ◌∙◌, arith, Option, Some, None, Result, Ok, Err}
+use Rattle.std.specs.Option.{ok_or}
 use Rattle.std.specs.Result.{result_ok, result_err}
 use Rattle.std.specs.Char.{is_ascii_hexdigit}
-use Rattle.std.specs.List.{position, position_or_len, list_all, AllPass, All}
+use Rattle.std.specs.List.{position, position_or_len, list_all, AllPass}
 use Rattle.std.proofs.lemmas.Grind.{common_steps}
 use Rattle.std.proofs.lemmas.Bool.{false≢true, ne_eqb, cases_lt, lt-ltb, lt-leb, le-ltb, le-leb}
 use Rattle.std.proofs.lemmas.Bool.Decides.{nat_tests}
-use Rattle.std.proofs.lemmas.List.Sums.{AllPass-from_list_all, list_all-from_AllPass, fails_before_first, passes_at_first}
+use Rattle.std.proofs.lemmas.List.Sums.{list_all-from_AllPass, fails_before_first, passes_at_first}
 use Rattle.std.proofs.lemmas.List.Folds.{list_all_at}
 use Rattle.hex.specs.declared.error.FromHexError.{FromHexError}
 use Rattle.hex.specs.Hex.{is_hex_digit, decode_of}
-use Rattle.hex.proofs.HexLemmas.{decode_of-ok, decode_of-digits, decode_of-odd}
+use Rattle.hex.proofs.HexLemmas.{decode_of-ok, decode_of-digits}
 use Rattle.arc_core.specs.HexText.{short_bytes}
-use Rattle.bkey_order.specs.declared.faults.BkeyFault.{BkeyFault}
 use Rattle.bkey_order.specs.declared.faults.BkeyFault.TheVariants.{TooLong}
 use Rattle.bkey_order.specs.BkeyFaults.{hex_fault}
 
@@ -65,8 +64,8 @@ short_bytes-empty digits h = rw h
 pub short_bytes-bad : (digits : List ℕ) (i : ℕ) → position (λ b. not (is_ascii_hexdigit b)) digits ≡ Some i → short_bytes digits ≡ None
 short_bytes-bad digits i h =
     not_decoded digits (λ bytes ok.
-        let all : AllPass is_ascii_hexdigit digits = λ k d l. same_digit (get_or digits k d) ∙ (decode_of-ok digits bytes ok).1 k d l in
-        false≢true (sym (some_fails is_ascii_hexdigit digits i h) ∙ list_all-from_AllPass is_ascii_hexdigit digits all))
+    let all : AllPass is_ascii_hexdigit digits = λ k d l. same_digit (get_or digits k d) ∙ (decode_of-ok digits bytes ok).1 k d l in
+    false≢true (sym (some_fails is_ascii_hexdigit digits i h) ∙ list_all-from_AllPass is_ascii_hexdigit digits all))
 
 pub short_bytes-odd : (digits : List ℕ) → length digits % 2 ≡ 1 → short_bytes digits ≡ None
 short_bytes-odd digits h = not_decoded digits (λ bytes ok. let even = (decode_of-ok digits bytes ok).0 in omega (arith, even, h))

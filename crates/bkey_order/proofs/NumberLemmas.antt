@@ -1,11 +1,11 @@
 -- Decimal digits: which of them spell a number, and what is wrong with the others.
-use Rattle.std.proofs.Common.{◌≡◌, ℕ, ◌^◌, ◌<◌, ◌≤◌, Bool, true, false, ◌&&◌, not, cond, eqb, ltb, leb, List, length, refl, sym, ap, ◌∙◌, arith, Option, Some, None, Result, Ok, Err}
+use Rattle.std.proofs.Common.{◌≡◌, ℕ, ◌<◌, ◌≤◌, Bool, true, false, ◌&&◌, not, cond, ltb, leb, List, length, sym, ap, ◌∙◌, arith, Some, None, Result, Ok, Err}
 use Rattle.std.specs.Char.{is_ascii_digit}
 use Rattle.std.specs.Result.{OkIff, result_ok}
 use Rattle.std.specs.List.{position, list_all}
-use Rattle.std.proofs.lemmas.Bool.{and_left, and_right, and_from, lt-ltb, lt-leb, le-leb, le-ltb}
+use Rattle.std.proofs.lemmas.Bool.{and_left, and_right, lt-ltb, lt-leb, le-leb, le-ltb}
 use Rattle.std.proofs.lemmas.List.Sums.{list_all-from_AllPass}
-use Rattle.arc_core.specs.Words.{number_below, number_of, is_numeral}
+use Rattle.arc_core.specs.Words.{number_below, number_of}
 use Rattle.bkey_order.proofs.DigitLemmas.{all_pass, some_fails}
 
 cond_false : {A : Type 0} (b : Bool) (x y : A) → b ≡ false → cond b x y ≡ y

@@ -1,8 +1,8 @@
 -- Texts of bkeys and flags are read back.
-use Rattle.std.proofs.Common.{◌≡◌, ℕ, ◌+◌, ◌-◌, ◌*◌, ◌^◌, ◌/◌, ◌%◌, ◌<◌, ◌≤◌, Bool, true, false, ◌&&◌, cond, eqb, ltb, leb, List, [], ◌∷◌, ◌++◌, length, take, drop, get_or, refl, sym, ap, ◌∙◌, arith, Option, Some, None, Ok, length-append, lit<}
+use Rattle.std.proofs.Common.{◌≡◌, ℕ, ◌+◌, ◌-◌, ◌*◌, ◌^◌, ◌/◌, ◌%◌, ◌<◌, ◌≤◌, true, false, ◌&&◌, eqb, List, [], ◌∷◌, ◌++◌, length, take, refl, ◌∙◌, arith, Some, None, length-append, lit<}
 use Rattle.std.specs.Prelude.{decimal}
 use Rattle.std.specs.Char.{is_ascii_digit}
-use Rattle.std.specs.List.{list_all, fold}
+use Rattle.std.specs.List.{list_all}
 use Rattle.std.proofs.Math.Seq.{take-append_seam}
 use Rattle.std.proofs.lemmas.Bool.{and_left, and_right, and_parts, lt-ltb, le-leb}
 use Rattle.std.proofs.lemmas.Bool.Decides.{nat_tests}
@@ -11,12 +11,11 @@ use Rattle.std.proofs.lemmas.List.Folds.{list_all-append}
 use Rattle.std.proofs.lemmas.Fmt.{decimal_by_steps, length-decimal-le}
 use Rattle.hex.specs.Hex.{encode_lower, lower_digits, IsBytes}
 use Rattle.hex.proofs.HexLemmas.{decode_of-encode_lower, length-encode_with}
-use Rattle.arc_core.specs.declared.bkeys.Bkey.{Bkey}
 use Rattle.arc_core.specs.declared.bkeys.Bkey.TheVariants.{Number, Bytes}
-use Rattle.arc_core.specs.Words.{number_of, number_below}
+use Rattle.arc_core.specs.Words.{number_of}
 use Rattle.arc_core.specs.ShortBytes.{IsShort}
 use Rattle.arc_core.specs.HexText.{hex_digits_of, short_bytes, eflag_word}
-use Rattle.arc_core.specs.BkeyText.{bkey_word, bkey_of, hex_text, bkey_text}
+use Rattle.arc_core.specs.BkeyText.{bkey_word, hex_text}
 use Rattle.bkey_order.proofs.NumberLemmas.{number_below-digits}
 
 -- digits that spell this number

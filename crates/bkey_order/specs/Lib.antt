@@ -1,1 +1,2 @@
 pub mod BkeyFaults
+pub mod OrderLaws

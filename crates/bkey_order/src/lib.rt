@@ -6,6 +6,8 @@
 mod faults;
 mod print;
 mod read;
+#[cfg(test)]
+mod tests;
 
 pub use faults::BkeyFault;
 pub use print::{print_bkey, print_eflag};

@@ -31,7 +31,12 @@ pub fn changed(change: &EflagChange, flag: &Option<Eflag>) -> Result<Option<Efla
 }
 
 // A flag with its bytes from a place on combined with an operand.
-fn combined_at(place: u8, op: BitOp, operand: &Eflag, flag: &Option<Eflag>) -> Result<Eflag, EflagMismatch>
+fn combined_at(
+    place: u8,
+    op: BitOp,
+    operand: &Eflag,
+    flag: &Option<Eflag>,
+) -> Result<Eflag, EflagMismatch>
     ensures { result_ok result ≡ meaning.combined_at place op operand.now flag.now }
 {
     let Some(flag) = flag else {

@@ -6,6 +6,8 @@
 mod bits;
 mod change;
 mod filter;
+#[cfg(test)]
+mod tests;
 
 pub use change::{EflagMismatch, changed};
 pub use filter::passes;

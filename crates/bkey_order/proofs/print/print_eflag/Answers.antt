@@ -1,4 +1,4 @@
-use Rattle.std.proofs.Common.{◌∙◌, ap, drop, refl, Some}
+use Rattle.std.proofs.Common.{◌∙◌, ap, drop, Some}
 use Rattle.bkey_order.proofs.TextLemmas.{flag_read_back}
 use Rattle.bkey_order.proofs.print.print_eflag.Goals as goal
 

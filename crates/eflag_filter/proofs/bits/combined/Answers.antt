@@ -1,4 +1,4 @@
-use Rattle.std.proofs.Common.{◌≡◌, ◌≤◌, ◌∙◌, length, take, set, min, sym, ap, arith, length-set}
+use Rattle.std.proofs.Common.{◌≡◌, ◌≤◌, ◌∙◌, length, take, min, ap, arith, length-set}
 use Rattle.eflag_filter.proofs.CombinationLemmas.{combination_step, combination_all}
 use Rattle.eflag_filter.proofs.bits.combined.Goals as goal
 
@@ -7,7 +7,7 @@ loop-i-preserved c =
     let long = c.loop-i.invariant.long in
     record {
       written = combination_step c.args.op c.loop-i.bytes c.args.part.now c.args.operand.now c.loop-i.i c.combine.result c.loop-i.invariant.written
-      (omega (arith, long)) (omega arith) (omega arith) c.combine.ensures;
+          (omega (arith, long)) (omega arith) (omega arith) c.combine.ensures;
       long = length-set c.loop-i.bytes c.loop-i.i c.combine.result ∙ long;
     }
 
