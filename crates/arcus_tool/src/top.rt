@@ -12,6 +12,7 @@ use std::alloc::Global;
 const DEFAULT_LIMIT_MIB: u32 = 64;
 
 /// The outside that a job is given.
+#[derive(Drop)]
 pub struct World<S, K, P, C> {
     /// Where input comes from.
     pub source: S,
