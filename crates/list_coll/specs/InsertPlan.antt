@@ -1,5 +1,5 @@
 -- Where an insert at an index of a list puts its element, and what it trims (`lop insert` of the ARCUS protocol).
-use Rattle.std.specs.Prelude.{◌≡◌, ℕ, zero, ◌-◌, ℤ, pos, negsuc, Bool, ◌==◌, nat_le, if◌then◌else◌, Option, Some, None, refl}
+use Rattle.std.specs.Prelude.{◌≡◌, ℕ, zero, ◌-◌, ℤ, pos, negsuc, Bool, ◌==◌, ◌≤◌, ◌<◌, nat_le, if◌then◌else◌, Option, Some, None, refl}
 use Rattle.arc_core.specs.declared.collections.Action.{Action}
 use Rattle.arc_core.specs.declared.collections.Action.TheVariants as action
 use Rattle.arc_core.specs.declared.collections.Side.{Side}
@@ -31,7 +31,8 @@ trimmed_side (pos zero) _ = High
 trimmed_side (negsuc zero) _ = Low
 trimmed_side _ action = side_of action
 
--- the trimmed element would be the new one: it would be first where the head goes, or last where the tail goes
+-- the trimmed element would be the new one: it would be first where the head goes, or last where the tail goes.
+-- At the indices 0 and -1 it never is, since a full list has an element.
 abbrev pub is_new_trimmed : ℕ → ℕ → Side → Bool
 is_new_trimmed place n Low = place == 0
 is_new_trimmed place n High = place == n
@@ -55,6 +56,13 @@ plan_at index n maxcount action (Some place) =
 -- what an insert at an index does in a list of n elements
 abbrev pub insert_plan : ℤ → ℕ → ℕ → Action → ListPlan
 insert_plan index n maxcount action = plan_at index n maxcount action (insert_place index n)
+
+-- A plan keeps the limit: a stored element's place is one of the list's, or the one behind its last, and the list has
+-- room for one more element or an old one to trim.
+abbrev pub KeepsLimit : ℕ → ℕ → ListPlan → Type 0
+KeepsLimit n maxcount (Store place) = (place ≤ n) × (n < maxcount)
+KeepsLimit n maxcount (StoreAndTrim place side) = (place ≤ n) × (1 ≤ n)
+KeepsLimit n maxcount _ = Unit {0}
 
 -- Worked: a list of five elements, full at five, that trims its tail.
 six_is_no_place : insert_plan (pos 6) 5 5 action.TailTrim ≡ OutOfRange (pos 6) 5

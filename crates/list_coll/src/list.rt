@@ -1,7 +1,7 @@
 //! The elements of a list.
 ghost use Rattle.std.specs.Prelude.{◌≡◌, ◌+◌, ◌-◌, ◌≤◌, ◌<◌, ℕ, [], length, insert, slice_get, OnOk, OnErr, IfSome};
 ghost use Rattle.std.specs.List.{remove_range};
-ghost use Rattle.list_coll.specs.InsertPlan.{IsListAction, insert_plan};
+ghost use Rattle.list_coll.specs.InsertPlan.{IsListAction, KeepsLimit, insert_plan};
 ghost use Rattle.list_coll.specs.Span.{span};
 
 use crate::plan::{ListPlan, plan_of};
@@ -30,7 +30,10 @@ impl Model for ListColl {
 
     ghost Value = { ListContents };
 
-    ghost view = { λ list. record { values = list.elements.items; spare = room_of (length list.elements.items) (deque_capacity list.elements - length list.elements.items) } };
+    ghost view = { λ list. record {
+      values = list.elements.items;
+      spare = room_of (length list.elements.items) (deque_capacity list.elements - length list.elements.items);
+    } };
 
     ghost invariant = { λ list. length list.elements.items ≤ most_elements };
 }
@@ -68,12 +71,18 @@ impl ListColl {
         Ok(())
     }
 
-    /// What an insert at an index does, where the list is full at `maxcount` elements and its action is `action`.
+    /// What an insert at an index does in this list, which is full at `maxcount` elements (ARCUS's `lop insert`).
+    ///
+    /// An index at or above 0 is that place, up to the count; index -k is the place k - 1 before the end, so that -1
+    /// puts last. `OutOfRange` comes for any other index. A full list answers `Overflowed` where its action is `Error`.
+    /// Else index 0 trims the tail, index -1 the head, and any other index the end that the action names, with
+    /// `OutOfRange` where the trimmed element would be the new one.
     pub fn plan(&self, index: i32, maxcount: u32, action: Action) -> ListPlan
         requires action { IsListAction action }
         requires maxcount { 1 ≤ maxcount }
         requires within { length self.now.values ≤ maxcount }
-        ensures { result ≡ insert_plan index (length self.now.values) maxcount action }
+        ensures plan { result ≡ insert_plan index (length self.now.values) maxcount action }
+        ensures limit { KeepsLimit (length self.now.values) maxcount result }
     {
         plan_of(index, self.count(), maxcount, action)
     }
@@ -88,7 +97,11 @@ impl ListColl {
         self.elements.insert(place as usize, value).unwrap();
     }
 
-    /// The part that a range of indices names, cut to the list's places; none where no place is left.
+    /// The part of the list that a range of indices names (ARCUS's `lop get` and `lop delete`).
+    ///
+    /// An index at or above 0 is that place; index -k is the place k before the end, so that -1 is the last element.
+    /// The part goes up where the first place is at most the last, and else down. It has those places alone that the
+    /// list has, and `None` comes exactly where it has none. One index is the range from it to itself.
     pub fn span(&self, range: IndexRange) -> Option<Part>
         ensures part { result ≡ span range (length self.now.values) }
         ensures within { IfSome result (λ part. (part.low ≤ part.high) × (part.high < length self.now.values)) }
@@ -111,6 +124,6 @@ impl ListColl {
         ensures values { self.new.values ≡ remove_range self.old.values low (high + 1) }
         ensures spare { self.new.spare ≡ self.old.spare + (high + 1 - low) }
     {
-        let _ = self.elements.drain(low as usize..high as usize + 1);
+        self.elements.drain(low as usize..high as usize + 1);
     }
 }

@@ -1,18 +1,19 @@
 //! Where an insert at an index of a list puts its element, and what it trims.
-ghost use Rattle.std.specs.Prelude.{◌≡◌, ◌≤◌};
+ghost use Rattle.std.specs.Prelude.{◌≡◌, ◌≤◌, IfSome};
 ghost use Rattle.arc_core.specs.declared.collections.Action.{Action};
-ghost use Rattle.list_coll.specs.InsertPlan.{IsListAction, insert_place, insert_plan, trimmed_side, full_plan};
+ghost use Rattle.list_coll.specs.InsertPlan.{IsListAction, KeepsLimit, insert_place, insert_plan, trimmed_side, full_plan};
 
 use arc_core::{Action, Side};
 
-/// What an insert into a list does. Places are counted from 0 at the head, in the list before the insert.
+/// What an insert into a list does. Places are counted from 0 at the head, in the list before the insert and the trim.
 #[derive(Clone, Copy, Debug, PartialEq, Eq)]
 pub enum ListPlan {
     /// The element goes to this place.
     Store(u32),
     /// The list is full. The element goes to this place, and the old element at this end is trimmed.
     StoreAndTrim(u32, Side),
-    /// The index, with the list's count, names no place for a new element, or the new element would be the trimmed one.
+    /// The index, and the list's count: the index names no place for a new element, or the new element would be the
+    /// trimmed one.
     OutOfRange(i32, u32),
     /// The list is full, and its action is `Error`.
     Overflowed,
@@ -21,8 +22,10 @@ pub enum ListPlan {
 // What an insert at an index does in a list of `count` elements.
 pub(crate) fn plan_of(index: i32, count: u32, maxcount: u32, action: Action) -> ListPlan
     requires list { IsListAction action }
+    requires maxcount { 1 ≤ maxcount }
     requires within { count ≤ maxcount }
-    ensures { result ≡ insert_plan index count maxcount action }
+    ensures plan { result ≡ insert_plan index count maxcount action }
+    ensures limit { KeepsLimit count maxcount result }
 {
     let Some(place) = place_for(index, count) else {
         return ListPlan::OutOfRange(index, count);
@@ -35,7 +38,8 @@ pub(crate) fn plan_of(index: i32, count: u32, maxcount: u32, action: Action) -> 
 
 // The place that an index names for a new element beside `count` others.
 fn place_for(index: i32, count: u32) -> Option<u32>
-    ensures { result ≡ insert_place index count }
+    ensures place { result ≡ insert_place index count }
+    ensures within { IfSome result (λ place. place ≤ count) }
 {
     if index >= 0 {
         let place = index as u32;
@@ -47,8 +51,11 @@ fn place_for(index: i32, count: u32) -> Option<u32>
 
 // What an insert at a place of a full list of `count` elements does.
 fn plan_full(index: i32, count: u32, place: u32, action: Action) -> ListPlan
-    requires { IsListAction action }
-    ensures { result ≡ full_plan index count place action }
+    requires list { IsListAction action }
+    requires full { 1 ≤ count }
+    requires within { place ≤ count }
+    ensures plan { result ≡ full_plan index count place action }
+    ensures limit { KeepsLimit count count result }
 {
     if action == Action::Error {
         return ListPlan::Overflowed;

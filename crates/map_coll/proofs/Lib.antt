@@ -1,2 +1,3 @@
 pub mod MappedLists
-pub mod TableEntries
+pub mod MarkedEntries
+pub mod EntryLemmas

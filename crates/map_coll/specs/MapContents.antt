@@ -1,11 +1,20 @@
 -- What contracts see of a map.
-use Rattle.std.specs.Prelude.{◌≢◌, ℕ, zero, suc, List, [], ◌∷◌, map, Option, position, AllPairs}
+use Rattle.std.specs.Prelude.{◌≢◌, ℕ, ◌-◌, min, zero, suc, List, [], ◌∷◌, map, filter, not, Bool, Option, position, AllPairs}
+use Rattle.std.specs.List.{list_any}
 use Rattle.std.specs.Str.{bytes_eq}
 
 -- The pairs of a field and its value, in the order of insertion, and for how many further pairs there is room.
 pub record MapContents : Type 0 where
   pub pairs : List (List ℕ × List ℕ)
   pub spare : ℕ
+
+-- the most pairs of a map, so that its count is a number of 32 bits
+abbrev pub most_pairs : ℕ
+most_pairs = 4_294_967_295
+
+-- the room of a map of n pairs, of which memory allows so many further
+abbrev pub room_of : ℕ → ℕ → ℕ
+room_of n further = min further (most_pairs - n)
 
 -- the fields, in the same order
 abbrev pub fields_of : List (List ℕ × List ℕ) → List (List ℕ)
@@ -18,6 +27,14 @@ place_of field pairs = position (bytes_eq field) (fields_of pairs)
 -- no field is there twice
 abbrev pub HaveDistinctFields : List (List ℕ × List ℕ) → Type 0
 HaveDistinctFields pairs = AllPairs (λ a b. a ≢ b) (fields_of pairs)
+
+-- whether a field is among the names
+abbrev pub is_named : List (List ℕ) → List ℕ → Bool
+is_named names field = list_any (λ name. bytes_eq name field) names
+
+-- the pairs whose fields are not among the names
+abbrev pub without : List (List ℕ) → List (List ℕ × List ℕ) → List (List ℕ × List ℕ)
+without names pairs = filter (λ pair. not (is_named names pair.0)) pairs
 
 -- the pairs, where the one at a place has another value
 abbrev pub with_value_at : List (List ℕ × List ℕ) → ℕ → List ℕ → List (List ℕ × List ℕ)

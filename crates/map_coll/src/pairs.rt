@@ -1,9 +1,11 @@
 //! The pairs of a map.
-ghost use Rattle.std.specs.Prelude.{◌≡◌, ◌+◌, ◌≤◌, ◌<◌, [], ◌∷◌, ◌++◌, length, remove, drop, slice_get, OnOk, OnErr};
+ghost use Rattle.std.specs.Prelude.{false, not, All, ◌≡◌, ◌+◌, ◌≤◌, ◌<◌, [], ◌∷◌, ◌++◌, length, remove, drop, slice_get, IfSome, OnOk, OnErr};
 ghost use Rattle.std.specs.Option.{option_map};
-ghost use Rattle.map_coll.specs.MapContents.{place_of, with_value_at, HaveDistinctFields};
+ghost use Rattle.map_coll.specs.MapContents.{place_of, with_value_at, is_named, without, HaveDistinctFields};
+ghost use Rattle.map_coll.specs.TableEntries.{held_pairs};
+ghost use Rattle.indexmap.specs.IndexMap.{spare};
 
-use arc_core::{Key, KeyRef, NoMemory, Value};
+use arc_core::{Key, KeyRef, KeyWords, NoMemory, Value};
 use indexmap::IndexMap;
 use std::alloc::Global;
 use std::marker::Model;
@@ -20,20 +22,30 @@ const MAX_PAIRS: usize = 4_294_967_295;
 #[derive(Drop)]
 pub struct MapColl {
     // Fields are kept as vectors of bytes, so that a look-up by a slice takes no memory.
-    table: IndexMap<Vec<u8>, Value>,
+    table: IndexMap<Vec<u8>, Held>,
+}
+
+// A value, and whether it is marked to go: while fields are removed, and at no other time.
+#[derive(Drop)]
+struct Held {
+    value: Value,
+    marked: bool,
 }
 
 impl Model for MapColl {
-    ghost use Rattle.std.specs.Prelude.{◌-◌, ◌≤◌, length, map, min, All};
-    ghost use Rattle.arc_core.specs.Key.{IsKey};
+    ghost use Rattle.std.specs.Prelude.{◌≤◌, length};
     ghost use Rattle.indexmap.specs.IndexMap.{spare};
-    ghost use Rattle.map_coll.specs.MapContents.{MapContents};
+    ghost use Rattle.map_coll.specs.MapContents.{MapContents, most_pairs, room_of};
+    ghost use Rattle.map_coll.specs.TableEntries.{held_pairs, AreAtRest};
 
     ghost Value = { MapContents };
 
-    ghost view = { λ it. record { pairs = map (λ e. (e.0.items, e.1)) it.table.entries; spare = min (spare it.table) (4_294_967_295 - length it.table.entries) } };
+    ghost view = { λ it. record {
+      pairs = held_pairs it.table.entries;
+      spare = room_of (length it.table.entries) (spare it.table);
+    } };
 
-    ghost invariant = { λ it. (length it.table.entries ≤ 4_294_967_295) × All (λ e. IsKey e.0.items) it.table.entries };
+    ghost invariant = { λ it. (length it.table.entries ≤ most_pairs) × AreAtRest it.table.entries };
 }
 
 impl MapColl {
@@ -41,7 +53,9 @@ impl MapColl {
     pub fn new(alloc: Global) -> MapColl
         ensures { result.pairs ≡ [] }
     {
-        MapColl { table: IndexMap::new(alloc) }
+        MapColl {
+            table: IndexMap::new(alloc),
+        }
     }
 
     /// The number of pairs, whose fields are distinct.
@@ -70,7 +84,8 @@ impl MapColl {
 
     /// The place of a field's pair, counted from 0 in the order of insertion. Takes no memory.
     pub fn place_of(&self, field: &[u8]) -> Option<u32>
-        ensures { result ≡ place_of field.now self.now.pairs }
+        ensures place { result ≡ place_of field.now self.now.pairs }
+        ensures within { IfSome result (λ place. place < length self.now.pairs) }
     {
         let place = self.table.get_index_of(field)?;
         Some(place as u32)
@@ -83,7 +98,11 @@ impl MapColl {
         ensures pairs { self.new.pairs ≡ self.old.pairs ++ (field, value) ∷ [] }
         ensures spare { self.old.spare ≤ self.new.spare + 1 }
     {
-        self.table.insert(field.into_bytes(), value).unwrap();
+        let held = Held {
+            value,
+            marked: false,
+        };
+        self.table.insert(field.into_bytes(), held).unwrap();
     }
 
     /// The pair at a place.
@@ -91,8 +110,8 @@ impl MapColl {
         requires { place < length self.now.pairs }
         ensures { slice_get self.now.pairs place ≡ Some (result.0, result.1.now) }
     {
-        let (field, value) = self.table.get_index(place as usize).unwrap();
-        (KeyRef::of(field), value)
+        let (field, held) = self.table.get_index(place as usize).unwrap();
+        (KeyRef::of(field), &held.value)
     }
 
     /// Gives the field at a place another value, and hands the old value back. Takes no memory.
@@ -102,7 +121,7 @@ impl MapColl {
         ensures pairs { self.new.pairs ≡ with_value_at self.old.pairs place value }
         ensures spare { self.new.spare ≡ self.old.spare }
     {
-        mem::replace(&mut self.table[place as usize], value)
+        mem::replace(&mut self.table[place as usize].value, value)
     }
 
     /// Removes the pair at a place. The others keep their order, which costs a move of each that is behind it.
@@ -123,11 +142,39 @@ impl MapColl {
         self.table.drain(..n);
     }
 
+    /// Removes the pairs of the named fields in one step. The others keep their order, and a field without a pair, or one
+    /// that is named twice, changes nothing more. Takes no memory.
+    pub fn remove_fields(&mut self, fields: &KeyWords<'_>)
+        ensures pairs { self.new.pairs ≡ without fields.now self.old.pairs }
+        ensures spare { self.old.spare ≤ self.new.spare }
+    {
+        mark_fields(&mut self.table, fields);
+        self.table.retain(
+            |_: &Vec<u8>, held: &mut Held| -> bool
+                ensures { (result ≡ not held.old.marked) × (held.new ≡ held.old) }
+            { !held.marked },
+        );
+    }
+
     /// Removes all pairs in one step.
     pub fn remove_all(&mut self)
         ensures pairs { self.new.pairs ≡ [] }
         ensures spare { self.old.spare ≤ self.new.spare }
     {
         self.table.clear();
+    }
+}
+
+// Marks the entries of the named fields.
+fn mark_fields(table: &mut IndexMap<Vec<u8>, Held>, fields: &KeyWords<'_>)
+    requires { All (λ e. e.1.marked ≡ false) table.old.entries }
+    ensures marks { All (λ e. e.1.marked ≡ is_named fields.now e.0.items) table.new.entries }
+    ensures pairs { held_pairs table.new.entries ≡ held_pairs table.old.entries }
+    ensures room { spare table.new ≡ spare table.old }
+{
+    for field in fields.iter() {
+        if let Some(place) = table.get_index_of(field.bytes()) {
+            table[place].marked = true;
+        }
     }
 }

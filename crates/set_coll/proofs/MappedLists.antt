@@ -1,5 +1,5 @@
 -- A list `ys` that shows what a function gives of each element of another list `xs`.
-use Rattle.std.proofs.Common.{◌≡◌, ℕ, Bool, true, false, cond, not, ◌||◌, ltb, suc, ◌+◌, ◌++◌, List, [], ◌∷◌, map, length, position, remove, drop, min, ◌≤◌, if◌then◌else◌, Option, None, Some, Result, Ok, IfOk, inl, inr, refl, sym, ap, subst, ◌∙◌, arith}
+use Rattle.std.proofs.Common.{◌≡◌, ℕ, Bool, true, false, cond, not, ◌||◌, ltb, suc, ◌+◌, ◌++◌, List, [], ◌∷◌, map, length, position, remove, drop, min, if◌then◌else◌, None, Some, Result, Ok, IfOk, inl, inr, refl, sym, ap, subst, ◌∙◌, arith}
 use Rattle.std.specs.List.{prefix_len, position_or_len, list_any, AllByRecursion, IsDistinct, remove_range}
 use Rattle.indexmap.specs.IndexSet.{insert_key}
 use Rattle.std.proofs.lemmas.Bool.{cases_lt}
@@ -11,7 +11,7 @@ list_any-position : {X : Type 0} (p : X → Bool) (xs : List X) → list_any p x
 list_any-position p [] = refl
 list_any-position p (x ∷ xs) =
     elim (p x) as (λ b. (b || list_any p xs) ≡ ltb (cond (not b) (1 + position_or_len p xs) 0) (suc (length xs)))
-        [ true ↦ grind (arith, nat_tests) | false ↦ list_any-position p xs ∙ grind (arith, nat_tests) ]
+    [ true ↦ grind (arith, nat_tests) | false ↦ list_any-position p xs ∙ grind (arith, nat_tests) ]
 
 -- where no place passes, no element does
 list_any-position_None : {X : Type 0} (p : X → Bool) (xs : List X) → position p xs ≡ None → list_any p xs ≡ false
@@ -33,8 +33,9 @@ pub first_removed : {X : Type 0} (xs new : List X) (len n k : ℕ) → len ≡ l
     → new ≡ drop n xs
 first_removed xs new len n k count least removed =
     elim (cases_lt n (length xs)) [
-        inl fewer ↦ (let all : k ≡ n = omega arith in removed ∙ ap (λ i. drop i xs) all)
-      | inr all ↦ removed ∙ drop_all k xs (omega arith) ∙ sym (drop_all n xs all) ]
+      | inl fewer ↦ (let all : k ≡ n = omega arith in removed ∙ ap (λ i. drop i xs) all)
+      | inr all ↦ removed ∙ drop_all k xs (omega arith) ∙ sym (drop_all n xs all)
+    ]
 
 module _ {X Y : Type 0} (h : X → Y) where
   prefix_len-map : (p : Y → Bool) (xs : List X) → prefix_len p (map h xs) ≡ prefix_len (λ x. p (h x)) xs

@@ -1,5 +1,5 @@
 //! The values of a set.
-ghost use Rattle.std.specs.Prelude.{◌≡◌, ◌+◌, ◌≤◌, ◌<◌, [], ◌∷◌, ◌++◌, length, remove, drop, slice_get, OnOk, OnErr};
+ghost use Rattle.std.specs.Prelude.{◌≡◌, ◌+◌, ◌≤◌, ◌<◌, [], ◌∷◌, ◌++◌, length, remove, drop, slice_get, IfSome, OnOk, OnErr};
 ghost use Rattle.set_coll.specs.SetContents.{place_of, AreDistinct};
 
 use arc_core::NoMemory;
@@ -13,22 +13,26 @@ const MAX_VALUES: usize = 4_294_967_295;
 /// The values of a set.
 ///
 /// Contracts see it as the list of its distinct values, in the order of insertion, and `spare`, the number of further
-/// values for which it has room. It has room for at most 2^32 - 1 values in all, far above what a set may be made to hold.
+/// values for which it has room. It has room for at most 2^32 - 1 values in all, far above what a set may be made to
+/// hold.
 #[derive(Drop)]
 pub struct SetColl {
     table: IndexSet<Vec<u8>>,
 }
 
 impl Model for SetColl {
-    ghost use Rattle.std.specs.Prelude.{◌-◌, ◌≤◌, length, map, min};
-    ghost use Rattle.indexmap.specs.IndexSet as set;
-    ghost use Rattle.set_coll.specs.SetContents.{SetContents};
+    ghost use Rattle.std.specs.Prelude.{◌≤◌, length, map};
+    ghost use Rattle.indexmap.specs.IndexSet.{spare};
+    ghost use Rattle.set_coll.specs.SetContents.{SetContents, most_values, room_of};
 
     ghost Value = { SetContents };
 
-    ghost view = { λ it. record { values = map (λ v. v.items) it.table.keys; spare = min (set.spare it.table) (4_294_967_295 - length it.table.keys) } };
+    ghost view = { λ it. record {
+      values = map (λ v. v.items) it.table.keys;
+      spare = room_of (length it.table.keys) (spare it.table);
+    } };
 
-    ghost invariant = { λ it. length it.table.keys ≤ 4_294_967_295 };
+    ghost invariant = { λ it. length it.table.keys ≤ most_values };
 }
 
 impl SetColl {
@@ -36,7 +40,9 @@ impl SetColl {
     pub fn new(alloc: Global) -> SetColl
         ensures { result.values ≡ [] }
     {
-        SetColl { table: IndexSet::new(alloc) }
+        SetColl {
+            table: IndexSet::new(alloc),
+        }
     }
 
     /// The number of values, which are distinct.
@@ -65,7 +71,8 @@ impl SetColl {
 
     /// The place of a value, counted from 0 in the order of insertion. Takes no memory.
     pub fn place_of(&self, value: &[u8]) -> Option<u32>
-        ensures { result ≡ place_of value.now self.now.values }
+        ensures place { result ≡ place_of value.now self.now.values }
+        ensures within { IfSome result (λ place. place < length self.now.values) }
     {
         let place = self.table.get_index_of(value)?;
         Some(place as u32)

@@ -9,4 +9,4 @@ returns-clause-values c =
     let seen = ap (λ (s : SetContents). s.values) c.self.view_is in
     let absent = absent_seen (λ v. v.items) _ _ seen (bytes_eq c.args.value.items) c.requires.absent in
     push_seen (λ v. v.items) _ _ seen _ c.args.value
-        (inserted_last (λ a b. bytes_eq a.items b.items) _ _ _ _ _ c.unwrap.ensures c.insert.ensures.keys absent)
+    (inserted_last (λ a b. bytes_eq a.items b.items) _ _ _ _ _ c.unwrap.ensures c.insert.ensures.keys absent)

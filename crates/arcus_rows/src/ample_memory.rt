@@ -1,0 +1,62 @@
+//! Each call that can answer want of memory, once with ample memory.
+
+use arc_core::{Act, Executor, Key, KeyRef, MemorySink, Push, Reply, Request, Seq, Sink, Value, Word};
+use cache_engine::{Cache, Settings};
+use frame_reader::{Frames, Unit};
+use line_grammar::{Command, Head, KvHeads, read_line};
+use std::test::Fail;
+
+#[test]
+fn keys_and_values_are_copied(rt: HostRuntime) -> Result<(), Fail> {
+    let read = KeyRef::read(b"k1")?;
+    let key = Key::copy(rt.alloc(), read)?;
+    assert_eq!(rt; key.bytes(), b"k1".as_slice());
+    let value = Value::copy(rt.alloc(), b"ab")?;
+    assert_eq!(rt; value.bytes(), b"ab".as_slice());
+    let equal = value.share()?;
+    assert_eq!(rt; equal.bytes(), b"ab".as_slice());
+    let mut seq = Seq::with_capacity(rt.alloc(), 1)?;
+    assert!(rt; seq.push(7_u8).is_ok());
+    assert!(rt; seq.push(8).is_ok());
+    assert_eq!(rt; seq.as_slice(), [7, 8].as_slice());
+    Ok(())
+}
+
+// Executes the request of a line that asks for a block, with the block's bytes.
+fn execute(cache: &mut Cache, line: &[u8], block: &[u8]) -> Option<Reply> {
+    let Ok(Head { command, answer }) = read_line(line) else {
+        return None;
+    };
+    let Command::Store { verb, key, flags, exptime, len } = command else {
+        return None;
+    };
+    if len as usize != block.len() {
+        return None;
+    }
+    let act = Act::Store { verb, key, flags, exptime, value: block };
+    Some(cache.execute(0, &Request { act, answer }))
+}
+
+#[test]
+fn a_request_is_executed(rt: HostRuntime) -> Result<(), Fail> {
+    let settings = Settings::of_mib(1).ok_or("1 MiB is a limit")?;
+    let mut cache = Cache::new(rt.alloc(), settings)?;
+    assert_eq!(rt; cache.accounted(), 0);
+    let reply = execute(&mut cache, b"set a 5 0 3", b"abc");
+    assert!(rt; matches!(reply, Some(Reply::Word(Word::Stored))));
+    assert_eq!(rt; cache.items(), 1);
+    // 64 bytes for the item itself, 1 for the key and 3 for the value.
+    assert_eq!(rt; cache.accounted(), 68);
+    Ok(())
+}
+
+#[test]
+fn frames_and_sinks_take_bytes(rt: HostRuntime) -> Result<(), Fail> {
+    let mut frames = Frames::new(rt.alloc(), KvHeads)?;
+    assert_eq!(rt; frames.feed(b"get a\r\n"), 7);
+    assert!(rt; matches!(frames.unit(), Unit::Line(b"get a")));
+    let mut sink = MemorySink::new(rt.alloc(), 2, Vec::new(rt.alloc()));
+    assert_eq!(rt; sink.push(b"END"), Push::Took(2));
+    assert_eq!(rt; sink.bytes(), b"EN".as_slice());
+    Ok(())
+}
