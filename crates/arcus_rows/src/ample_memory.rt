@@ -1,9 +1,9 @@
 //! Each call that can answer want of memory, once with ample memory.
 
-use arc_core::{Act, Executor, Key, KeyRef, MemorySink, Push, Reply, Request, Seq, Sink, Value, Word};
+use arc_core::{Executor, Key, KeyRef, MemorySink, Push, Reply, Seq, Sink, Value, Word};
 use cache_engine::{Cache, Settings};
 use frame_reader::{Frames, Unit};
-use line_grammar::{Command, Head, KvHeads, read_line};
+use line_grammar::{Command, KvHeads, read_line};
 use std::test::Fail;
 
 #[test]
@@ -22,19 +22,19 @@ fn keys_and_values_are_copied(rt: HostRuntime) -> Result<(), Fail> {
     Ok(())
 }
 
-// Executes the request of a line that asks for a block, with the block's bytes.
+// Executes the request of a line that asks for a block, with that block.
 fn execute(cache: &mut Cache, line: &[u8], block: &[u8]) -> Option<Reply> {
-    let Ok(Head { command, answer }) = read_line(line) else {
+    let Ok(head) = read_line(line) else {
         return None;
     };
-    let Command::Store { verb, key, flags, exptime, len } = command else {
+    let Command::Store { len, .. } = head.command else {
         return None;
     };
-    if len as usize != block.len() {
+    if len as usize != block.len() || len > 131_070 {
         return None;
     }
-    let act = Act::Store { verb, key, flags, exptime, value: block };
-    Some(cache.execute(0, &Request { act, answer }))
+    let request = head.with_block(block);
+    Some(cache.execute(0, &request))
 }
 
 #[test]

@@ -6,16 +6,15 @@ ghost use Rattle.arc_core.specs.Framing.{IsSpan};
 ghost use Rattle.arc_core.specs.SessionText.{TellsUnit};
 ghost use Rattle.frame_reader.specs.Units.{whole_of};
 ghost use Rattle.arc_core.specs.Grammar.{IsHead, IsBlockFor, line_needs, request_of};
-ghost use Rattle.arc_core.specs.PlainRequest.{plain};
 ghost use Rattle.arc_core.specs.ReplyText.{reply_text};
 ghost use Rattle.line_grammar.specs.PlainHead.{plain_head};
 ghost use Rattle.arcus_tool.specs.Handling.{Stand, stand, IsTold, TellsLine, TellsRequest, HasItsBlock, IsBetweenUnits, GoesOn, Takes, TakesAll};
 
 use crate::output::{Outbox, Unsent};
 use crate::texts::{send_reply, send_word};
-use arc_core::{Act, Clock, Executor, Request, Sink, Word};
+use arc_core::{Clock, Executor, Sink, Word};
 use frame_reader::{Frames, Unit};
-use line_grammar::{Command, Head, KvHeads, LineFault, read_line};
+use line_grammar::{Head, KvHeads, LineFault, read_line};
 
 /// Why a session goes no further.
 #[derive(Clone, Copy, Debug, PartialEq, Eq)]
@@ -66,34 +65,10 @@ fn execute<'a, E: Executor, C: Clock, K: Sink>(
         (stand (E.state exec.new) (C.coming clock.new) (K.sent sink.new) (K.write_faults sink.new) (K.refusals sink.new)) result }
     ensures empty { OnOk result (out.new ≡ []) }
 {
-    let request = join(head, block);
+    let request = head.with_block(block);
     let now = clock.second();
     let reply = exec.execute(now, &request);
     send_reply(out, sink, &reply)
-}
-
-// The request of a head and its block.
-fn join<'a>(head: Head<'a>, block: &'a [u8]) -> Request<'a>
-    ensures { plain result ≡ request_of (plain_head head.entry) block.now }
-{
-    let Head { command, answer } = head;
-    let act = match command {
-        Command::Store {
-            verb,
-            key,
-            flags,
-            exptime,
-            len: _,
-        } => Act::Store {
-            verb,
-            key,
-            flags,
-            exptime,
-            value: block,
-        },
-        Command::Get { keys, unique } => Act::Get { keys, unique },
-    };
-    Request { act, answer }
 }
 
 // Answers a unit that is whole and no line that is too long.

@@ -1,9 +1,10 @@
 //! Heads: what a line spells.
 ghost use Rattle.std.specs.Prelude.{◌≡◌};
-ghost use Rattle.arc_core.specs.Grammar.{need_of};
+ghost use Rattle.arc_core.specs.Grammar.{need_of, request_of};
+ghost use Rattle.arc_core.specs.PlainRequest.{plain};
 ghost use Rattle.line_grammar.specs.PlainHead.{plain_command, plain_head, is_quit, is_silent};
 
-use arc_core::{Answer, KeyRef, KeyWords, Need, StoreVerb};
+use arc_core::{Act, Answer, KeyRef, KeyWords, Need, Request, StoreVerb};
 
 /// The most bytes of the value of a storing command.
 const VALUE_LIMIT: u32 = 131_070;
@@ -72,5 +73,30 @@ impl<'a> Head<'a> {
         match self.answer {
             Answer::Plain => false,
         }
+    }
+
+    /// The request of this head and the block that follows its line. It borrows both. (The block is not read: that it is
+    /// the one that the head needs is its reader's part.)
+    pub fn with_block(self, block: &'a [u8]) -> Request<'a>
+        ensures { plain result ≡ request_of (plain_head self.entry) block.now }
+    {
+        let Head { command, answer } = self;
+        let act = match command {
+            Command::Store {
+                verb,
+                key,
+                flags,
+                exptime,
+                len: _,
+            } => Act::Store {
+                verb,
+                key,
+                flags,
+                exptime,
+                value: block,
+            },
+            Command::Get { keys, unique } => Act::Get { keys, unique },
+        };
+        Request { act, answer }
     }
 }
