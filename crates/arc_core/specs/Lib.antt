@@ -1,3 +1,4 @@
 pub mod Growth
 pub mod Key
 pub mod Places
+pub mod Room
