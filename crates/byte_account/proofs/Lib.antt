@@ -1,0 +1,3 @@
+pub mod ByBytesLemmas
+pub mod ShelfLists
+pub mod LruLemmas

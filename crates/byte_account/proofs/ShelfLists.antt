@@ -1,0 +1,132 @@
+-- Lists of places: what looking, moving, taking out and weighing give.
+use Rattle.std.proofs.Common.{◌≡◌, ℕ, ◌+◌, Bool, true, false, cond, not, List, [], ◌∷◌, map, length, filter, sum_by, Option, Some, None, option_map, IsSome, is_some, bytes_eq, refl, sym, ap, ◌∙◌, subst, arith}
+use Rattle.std.specs.Option.{option_map_or, unwrap_or}
+use Rattle.std.specs.List.{IsDistinct, AllByRecursion}
+use Rattle.std.specs.Map.{keys_of, lookup, lookup_entry, remove_entry, set_value}
+use Rattle.std.specs.Cmp.Lexicographic.{nat_list_eq_equiv}
+use Rattle.std.proofs.lemmas.Slice.Eq.{bytes_eq-Decides}
+use Rattle.std.proofs.lemmas.Map.Keys.{IsDistinct-head, IsDistinct-tail, IsDistinct-cons}
+use Rattle.std.proofs.lemmas.Map.Entries.{lookup-filter-keys}
+use Rattle.std.proofs.lemmas.List.Sums.{sum_by-cons}
+use Rattle.std.proofs.lemmas.Map.Made.{IsDistinct-keys_filter}
+use Rattle.arc_core.specs.Places.{others, to_front, shelved, weight_of}
+
+pub same_key : (x y : List ℕ) → bytes_eq x y ≡ true → x ≡ y
+same_key x y = (bytes_eq-Decides x y).0
+
+pub own_key : (x : List ℕ) → bytes_eq x x ≡ true
+own_key = nat_list_eq_equiv.refl
+
+-- where no key passes, there is no value to set
+pub set_value-absent : {K X : Type 0} (test : K → Bool) (es : List (K × X)) (x : X) → lookup test es ≡ None → set_value test es x ≡ es
+set_value-absent test [] x absent = refl
+set_value-absent test (e ∷ es) x absent = grind (arith, set_value-absent test es x)
+
+module _ {X : Type 0} where
+  -- the key has no place on the list
+  abbrev pub IsAbsent : List ℕ → List (List ℕ × X) → Type 0
+  IsAbsent key shelf = lookup (bytes_eq key) shelf ≡ None
+
+  -- no key has two places on the list
+  abbrev pub AreApart : List (List ℕ × X) → Type 0
+  AreApart shelf = IsDistinct bytes_eq (keys_of shelf)
+
+  pub others-absent : (key : List ℕ) (shelf : List (List ℕ × X)) → IsAbsent key shelf → others key shelf ≡ shelf
+  others-absent key [] absent = refl
+  others-absent key (place ∷ older) absent = grind (arith, others-absent key older)
+
+  pub lookup-others : (key : List ℕ) (shelf : List (List ℕ × X)) → IsAbsent key (others key shelf)
+  lookup-others key [] = refl
+  lookup-others key (place ∷ older) = grind (arith, lookup-others key older)
+
+  pub lookup-others_apart : (key other : List ℕ) (shelf : List (List ℕ × X)) → bytes_eq other key ≡ false → lookup (bytes_eq other) (others key shelf) ≡ lookup (bytes_eq other) shelf
+  lookup-others_apart key other [] apart = refl
+  lookup-others_apart key other (place ∷ older) apart = grind (arith, lookup-others_apart key other older apart, same_key key place.0, same_key other place.0)
+
+  absent_from_all : (key : List ℕ) (shelf : List (List ℕ × X)) → AllByRecursion (λ other. bytes_eq key other ≡ false) (keys_of shelf) → IsAbsent key shelf
+  absent_from_all key [] all = refl
+  absent_from_all key (place ∷ older) all = grind (arith, absent_from_all key older all.1)
+
+  all_from_absent : (key : List ℕ) (shelf : List (List ℕ × X)) → IsAbsent key shelf → AllByRecursion (λ other. bytes_eq key other ≡ false) (keys_of shelf)
+  all_from_absent key [] absent = tt
+  all_from_absent key (place ∷ older) absent =
+      (elim (bytes_eq key place.0) as (λ b. cond b (Some place.1) (lookup (bytes_eq key) older) ≡ None → (b ≡ false) × AllByRecursion (λ other. bytes_eq key other ≡ false) (keys_of older)) [
+        | true ↦ λ h. cc
+        | false ↦ λ h. (refl, all_from_absent key older h)
+      ]) absent
+
+  pub IsAbsent-head : (place : List ℕ × X) (older : List (List ℕ × X)) → AreApart (place ∷ older) → IsAbsent place.0 older
+  IsAbsent-head place older apart = absent_from_all place.0 older (IsDistinct-head bytes_eq place.0 (keys_of older) apart)
+
+  pub AreApart-tail : (place : List ℕ × X) (older : List (List ℕ × X)) → AreApart (place ∷ older) → AreApart older
+  AreApart-tail place older apart = IsDistinct-tail bytes_eq place.0 (keys_of older) apart
+
+  pub AreApart-cons : (key : List ℕ) (x : X) (shelf : List (List ℕ × X)) → IsAbsent key shelf → AreApart shelf → AreApart ((key, x) ∷ shelf)
+  AreApart-cons key x shelf absent apart = IsDistinct-cons bytes_eq key (keys_of shelf) (all_from_absent key shelf absent) apart
+
+  pub AreApart-others : (key : List ℕ) (shelf : List (List ℕ × X)) → AreApart shelf → AreApart (others key shelf)
+  AreApart-others key shelf = IsDistinct-keys_filter bytes_eq (λ place. not (bytes_eq key place.0)) shelf
+
+  pub remove_entry-others : (key : List ℕ) (shelf : List (List ℕ × X)) → AreApart shelf → remove_entry (bytes_eq key) shelf ≡ others key shelf
+  remove_entry-others key [] apart = refl
+  remove_entry-others key (place ∷ older) apart =
+      let absent : bytes_eq key place.0 ≡ true → IsAbsent key older = λ h. subst (λ k. IsAbsent k older) (sym (same_key key place.0 h)) (IsAbsent-head place older apart) in
+      let rest : remove_entry (bytes_eq key) older ≡ others key older = remove_entry-others key older (AreApart-tail place older apart) in
+      (elim (bytes_eq key place.0) as (λ b. (b ≡ true → IsAbsent key older) → cond b older (place ∷ remove_entry (bytes_eq key) older) ≡ cond (not b) (place ∷ others key older) (others key older)) [
+        | true ↦ λ h. sym (others-absent key older (h refl))
+        | false ↦ λ h. ap (λ r. place ∷ r) rest
+      ]) absent
+
+  pub keys_of-set_value : (key : List ℕ) (x : X) (shelf : List (List ℕ × X)) → keys_of (set_value (bytes_eq key) shelf x) ≡ keys_of shelf
+  keys_of-set_value key x [] = refl
+  keys_of-set_value key x (place ∷ older) = grind (arith, keys_of-set_value key x older)
+
+  pub lookup-set_value : (key : List ℕ) (x : X) (shelf : List (List ℕ × X)) → IsSome (lookup (bytes_eq key) shelf) → lookup (bytes_eq key) (set_value (bytes_eq key) shelf x) ≡ Some x
+  lookup-set_value key x [] there = absurd (cc)
+  lookup-set_value key x (place ∷ older) there = grind (arith, lookup-set_value key x older)
+
+  pub lookup-set_value_apart : (key other : List ℕ) (x : X) (shelf : List (List ℕ × X)) → bytes_eq other key ≡ false → lookup (bytes_eq other) (set_value (bytes_eq key) shelf x) ≡ lookup (bytes_eq other) shelf
+  lookup-set_value_apart key other x [] apart = refl
+  lookup-set_value_apart key other x (place ∷ older) apart = grind (arith, lookup-set_value_apart key other x older apart, same_key key place.0)
+
+  -- what stands under the key weighs so much, or 0 where nothing does
+  abbrev pub weight_under : (List ℕ → X → ℕ) → List ℕ → Option X → ℕ
+  weight_under weigh key place = option_map_or (weigh key) place 0
+
+  pub weight-cons : (weigh : List ℕ → X → ℕ) (place : List ℕ × X) (older : List (List ℕ × X)) → weight_of weigh (place ∷ older) ≡ weigh place.0 place.1 + weight_of weigh older
+  weight-cons weigh place older = sum_by-cons (λ (p : List ℕ × X). weigh p.0 p.1) place older
+
+  weight-others_at : (weigh : List ℕ → X → ℕ) (key : List ℕ) (place : List ℕ × X) (older rest : List (List ℕ × X)) (b : Bool) → (b ≡ true → key ≡ place.0) → (b ≡ true → rest ≡ older)
+      → weight_of weigh rest + weight_under weigh key (lookup (bytes_eq key) older) ≡ weight_of weigh older
+      → weight_of weigh (cond (not b) (place ∷ rest) rest) + weight_under weigh key (cond b (Some place.1) (lookup (bytes_eq key) older)) ≡ weight_of weigh (place ∷ older)
+  weight-others_at weigh key place older rest true same none h =
+      let own : weigh key place.1 ≡ weigh place.0 place.1 = ap (λ k. weigh k place.1) (same refl) in
+      let all : weight_of weigh rest ≡ weight_of weigh older = ap (weight_of weigh) (none refl) in
+      omega (arith, weight-cons weigh place older)
+  weight-others_at weigh key place older rest false same none h =
+      omega (arith, weight-cons weigh place older, weight-cons weigh place rest)
+
+  pub weight-others : (weigh : List ℕ → X → ℕ) (key : List ℕ) (shelf : List (List ℕ × X)) → AreApart shelf → weight_of weigh (others key shelf) + weight_under weigh key (lookup (bytes_eq key) shelf) ≡ weight_of weigh shelf
+  weight-others weigh key [] apart = refl
+  weight-others weigh key (place ∷ older) apart =
+      let same : bytes_eq key place.0 ≡ true → key ≡ place.0 = same_key key place.0 in
+      let none : bytes_eq key place.0 ≡ true → others key older ≡ older = λ h. others-absent key older (subst (λ k. IsAbsent k older) (sym (same h)) (IsAbsent-head place older apart)) in
+      weight-others_at weigh key place older (others key older) (bytes_eq key place.0) same none (weight-others weigh key older (AreApart-tail place older apart))
+
+  weight-set_value_at : (weigh : List ℕ → X → ℕ) (key : List ℕ) (old x : X) (place : List ℕ × X) (older rest : List (List ℕ × X)) (b : Bool) → (b ≡ true → key ≡ place.0)
+      → (lookup (bytes_eq key) older ≡ Some old → weight_of weigh rest + weigh key old ≡ weight_of weigh older + weigh key x)
+      → cond b (Some place.1) (lookup (bytes_eq key) older) ≡ Some old
+      → weight_of weigh (cond b ((place.0, x) ∷ older) (place ∷ rest)) + weigh key old ≡ weight_of weigh (place ∷ older) + weigh key x
+  weight-set_value_at weigh key old x place older rest true same h there =
+      let before : weigh key old ≡ weigh place.0 place.1 = cc (same refl) in
+      let after : weigh key x ≡ weigh place.0 x = ap (λ k. weigh k x) (same refl) in
+      omega (arith, weight-cons weigh place older, weight-cons weigh (place.0, x) older)
+  weight-set_value_at weigh key old x place older rest false same h there =
+      let step : weight_of weigh rest + weigh key old ≡ weight_of weigh older + weigh key x = h there in
+      omega (arith, weight-cons weigh place older, weight-cons weigh place rest)
+
+  pub weight-set_value : (weigh : List ℕ → X → ℕ) (key : List ℕ) (old x : X) (shelf : List (List ℕ × X)) → lookup (bytes_eq key) shelf ≡ Some old
+      → weight_of weigh (set_value (bytes_eq key) shelf x) + weigh key old ≡ weight_of weigh shelf + weigh key x
+  weight-set_value weigh key old x [] there = absurd (cc)
+  weight-set_value weigh key old x (place ∷ older) there =
+      weight-set_value_at weigh key old x place older (set_value (bytes_eq key) older x) (bytes_eq key place.0) (same_key key place.0) (weight-set_value weigh key old x older) there

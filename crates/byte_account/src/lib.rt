@@ -1,0 +1,12 @@
+//! The shelf: which items stay in memory.
+//!
+//! It keeps items under their keys, accounts the bytes of each, keeps the order in which they were used, and finds
+//! room for more by the least eviction. Sticky items are accounted and never evicted.
+#![tactic(auto)]
+
+mod recency_list;
+mod room;
+mod weighs;
+
+pub use room::Room;
+pub use weighs::Weighs;
