@@ -1,10 +1,12 @@
 -- A table by the bytes of its keys: what its words say of the table itself.
-use Rattle.std.proofs.Common.{◌≡◌, ℕ, Bool, true, false, cond, List, [], ◌∷◌, map, length, Option, Some, None, option_map, IfSome, bytes_eq, refl, sym, ap, ◌∙◌, arith}
+use Rattle.std.proofs.Common.{◌≡◌, ℕ, Bool, true, false, cond, List, [], ◌∷◌, ◌++◌, map, length, Option, Some, None, option_map, IfSome, bytes_eq, refl, sym, ap, ◌∙◌, arith}
 use Rattle.std.specs.Option.{option_map_or, unwrap_or}
 use Rattle.std.specs.Map.{keys_of, lookup, lookup_entry, remove_entry, set_value}
-use Rattle.lru.specs.LruCache.{promoted}
+use Rattle.std.proofs.lemmas.List.{map-append}
+use Rattle.lru.specs.LruCache.{promoted, demoted}
 use Rattle.arc_core.specs.Places.{others, to_front}
 use Rattle.byte_account.specs.ByBytes.{by_bytes, entry_by_bytes}
+use Rattle.byte_account.specs.Eviction.{to_back}
 use Rattle.byte_account.proofs.ShelfLists.{AreApart, same_key, remove_entry-others}
 
 -- a function of a choice is a choice of the function
@@ -15,6 +17,9 @@ cond_ap f false x y = refl
 -- the test of a table's key that a look-up by bytes makes
 abbrev pub has_bytes : {K : Type 0} → (K → List ℕ) → List ℕ → K → Bool
 has_bytes bytes key k = bytes_eq key (bytes k)
+
+pub by_bytes-push : {K X : Type 0} (bytes : K → List ℕ) (es front : List (K × X)) (e : K × X) → es ≡ front ++ e ∷ [] → by_bytes bytes es ≡ by_bytes bytes front ++ entry_by_bytes bytes e ∷ []
+by_bytes-push bytes es front e h = ap (by_bytes bytes) h ∙ map-append (entry_by_bytes bytes) front (e ∷ [])
 
 module _ {K X : Type 0} (bytes : K → List ℕ) (key : List ℕ) where
   pub lookup-by_bytes : (es : List (K × X)) → lookup (bytes_eq key) (by_bytes bytes es) ≡ lookup (has_bytes bytes key) es
@@ -66,3 +71,15 @@ module _ {K X : Type 0} (bytes : K → List ℕ) (key : List ℕ) where
 
   pub promoted-by_bytes : (es : List (K × X)) → AreApart (by_bytes bytes es) → by_bytes bytes (promoted (has_bytes bytes key) es) ≡ to_front key (by_bytes bytes es)
   promoted-by_bytes es apart = to_front_by es (others key (by_bytes bytes es)) _ _ (remove_entry-by_bytes es ∙ remove_entry-others key (by_bytes bytes es) apart) (lookup_entry-by_bytes es)
+
+  to_back_by : (es : List (K × X)) (rest : List (List ℕ × X)) (e : Option (K × X)) (x : Option X) → by_bytes bytes (remove_entry (has_bytes bytes key) es) ≡ rest → option_map (entry_by_bytes bytes) e ≡ option_map under_key x
+      → by_bytes bytes (option_map_or (λ f. remove_entry (has_bytes bytes key) es ++ f ∷ []) e es) ≡ option_map_or (λ y. rest ++ (key, y) ∷ []) x (by_bytes bytes es)
+  to_back_by es rest None None r h = refl
+  to_back_by es rest None (Some x) r h = cc
+  to_back_by es rest (Some e) None r h = cc
+  to_back_by es rest (Some e) (Some x) r h =
+      map-append (entry_by_bytes bytes) (remove_entry (has_bytes bytes key) es) (e ∷ [])
+      ∙ ap (λ front. front ++ entry_by_bytes bytes e ∷ []) r ∙ ap (λ found. rest ++ unwrap_or {T = List ℕ × X} found (key, x) ∷ []) h
+
+  pub demoted-by_bytes : (es : List (K × X)) → AreApart (by_bytes bytes es) → by_bytes bytes (demoted (has_bytes bytes key) es) ≡ to_back key (by_bytes bytes es)
+  demoted-by_bytes es apart = to_back_by es (others key (by_bytes bytes es)) _ _ (remove_entry-by_bytes es ∙ remove_entry-others key (by_bytes bytes es) apart) (lookup_entry-by_bytes es)

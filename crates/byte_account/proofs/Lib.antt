@@ -1,3 +1,5 @@
 pub mod ByBytesLemmas
 pub mod ShelfLists
 pub mod LruLemmas
+pub mod EvictionLemmas
+pub mod RoomLemmas

@@ -1,12 +1,13 @@
 -- Lists of places: what looking, moving, taking out and weighing give.
-use Rattle.std.proofs.Common.{◌≡◌, ℕ, ◌+◌, Bool, true, false, cond, not, List, [], ◌∷◌, map, length, filter, sum_by, Option, Some, None, option_map, IsSome, is_some, bytes_eq, refl, sym, ap, ◌∙◌, subst, arith}
-use Rattle.std.specs.Option.{option_map_or, unwrap_or}
+use Rattle.std.proofs.Common.{◌≡◌, ℕ, ◌+◌, ◌≤◌, Bool, true, false, cond, not, List, [], ◌∷◌, ◌++◌, map, length, filter, sum_by, Option, Some, None, option_map, IsSome, is_some, bytes_eq, refl, sym, ap, ◌∙◌, subst, arith}
+use Rattle.std.specs.Option.{option_map_or, option_or, unwrap_or}
 use Rattle.std.specs.List.{IsDistinct, AllByRecursion}
 use Rattle.std.specs.Map.{keys_of, lookup, lookup_entry, remove_entry, set_value}
 use Rattle.std.specs.Cmp.Lexicographic.{nat_list_eq_equiv}
 use Rattle.std.proofs.lemmas.Slice.Eq.{bytes_eq-Decides}
 use Rattle.std.proofs.lemmas.Map.Keys.{IsDistinct-head, IsDistinct-tail, IsDistinct-cons}
 use Rattle.std.proofs.lemmas.Map.Entries.{lookup-filter-keys}
+use Rattle.std.proofs.lemmas.List.Elements.{filter-append}
 use Rattle.std.proofs.lemmas.List.Sums.{sum_by-cons}
 use Rattle.std.proofs.lemmas.Map.Made.{IsDistinct-keys_filter}
 use Rattle.arc_core.specs.Places.{others, to_front, shelved, weight_of}
@@ -21,6 +22,10 @@ own_key = nat_list_eq_equiv.refl
 pub set_value-absent : {K X : Type 0} (test : K → Bool) (es : List (K × X)) (x : X) → lookup test es ≡ None → set_value test es x ≡ es
 set_value-absent test [] x absent = refl
 set_value-absent test (e ∷ es) x absent = grind (arith, set_value-absent test es x)
+
+pub IsDistinct-nil : {K : Type 0} (eq : K → K → Bool) → IsDistinct eq []
+unfolding IsDistinct
+IsDistinct-nil eq = tt
 
 module _ {X : Type 0} where
   -- the key has no place on the list
@@ -130,3 +135,67 @@ module _ {X : Type 0} where
   weight-set_value weigh key old x [] there = absurd (cc)
   weight-set_value weigh key old x (place ∷ older) there =
       weight-set_value_at weigh key old x place older (set_value (bytes_eq key) older x) (bytes_eq key place.0) (same_key key place.0) (weight-set_value weigh key old x older) there
+
+  pub lookup-append : (key : List ℕ) (xs ys : List (List ℕ × X)) → lookup (bytes_eq key) (xs ++ ys) ≡ option_or (lookup (bytes_eq key) xs) (lookup (bytes_eq key) ys)
+  lookup-append key [] ys = refl
+  lookup-append key (x ∷ xs) ys = grind (arith, lookup-append key xs ys)
+
+  pub IsAbsent-front : (key : List ℕ) (xs ys : List (List ℕ × X)) → IsAbsent key (xs ++ ys) → IsAbsent key xs
+  IsAbsent-front key [] ys absent = refl
+  IsAbsent-front key (x ∷ xs) ys absent = grind (arith, IsAbsent-front key xs ys)
+
+  pub IsAbsent-back : (key : List ℕ) (xs ys : List (List ℕ × X)) → IsAbsent key (xs ++ ys) → IsAbsent key ys
+  IsAbsent-back key [] ys absent = absent
+  IsAbsent-back key (x ∷ xs) ys absent = grind (arith, IsAbsent-back key xs ys)
+
+  pub IsAbsent-differs : (key : List ℕ) (place : List ℕ × X) (rest : List (List ℕ × X)) → IsAbsent key (place ∷ rest) → bytes_eq key place.0 ≡ false
+  IsAbsent-differs key place rest absent = grind arith
+
+  pub IsAbsent-append : (key : List ℕ) (xs ys : List (List ℕ × X)) → IsAbsent key xs → IsAbsent key ys → IsAbsent key (xs ++ ys)
+  IsAbsent-append key xs ys first second = lookup-append key xs ys ∙ ap (λ o. option_or o (lookup (bytes_eq key) ys)) first ∙ second
+
+  pub AreApart-front : (xs ys : List (List ℕ × X)) → AreApart (xs ++ ys) → AreApart xs
+  AreApart-front [] ys apart = IsDistinct-nil bytes_eq
+  AreApart-front (x ∷ xs) ys apart = AreApart-cons x.0 x.1 xs (IsAbsent-front x.0 xs ys (IsAbsent-head x (xs ++ ys) apart)) (AreApart-front xs ys (AreApart-tail x (xs ++ ys) apart))
+
+  -- no place before a key's has that key
+  pub IsAbsent-before : (front rest : List (List ℕ × X)) (place : List ℕ × X) → AreApart (front ++ place ∷ rest) → IsAbsent place.0 front
+  IsAbsent-before [] rest place apart = refl
+  IsAbsent-before (x ∷ front) rest place apart =
+      let later : bytes_eq x.0 place.0 ≡ false = IsAbsent-differs x.0 place rest (IsAbsent-back x.0 front (place ∷ rest) (IsAbsent-head x (front ++ place ∷ rest) apart)) in
+      let earlier : bytes_eq place.0 x.0 ≡ false = nat_list_eq_equiv.symm place.0 x.0 ∙ later in
+      ap (λ b. cond b (Some x.1) (lookup (bytes_eq place.0) front)) earlier ∙ IsAbsent-before front rest place (AreApart-tail x (front ++ place ∷ rest) apart)
+
+  pub others-append : (key : List ℕ) (xs ys : List (List ℕ × X)) → others key (xs ++ ys) ≡ others key xs ++ others key ys
+  others-append key xs ys = filter-append (λ (place : List ℕ × X). not (bytes_eq key place.0)) xs ys
+
+  pub length-others-le : (key : List ℕ) (shelf : List (List ℕ × X)) → length (others key shelf) ≤ length shelf
+  length-others-le key [] = omega arith
+  length-others-le key (place ∷ older) = grind (arith, length-others-le key older)
+
+  to_front_is : (key : List ℕ) (shelf : List (List ℕ × X)) (found : Option X) → lookup (bytes_eq key) shelf ≡ found → to_front key shelf ≡ option_map_or (λ x. (key, x) ∷ others key shelf) found shelf
+  to_front_is key shelf found h = ap (λ o. option_map_or (λ x. (key, x) ∷ others key shelf) o shelf) h
+
+  weight_at_front : (weigh : List ℕ → X → ℕ) (key : List ℕ) (shelf : List (List ℕ × X)) (found : Option X) → weight_of weigh (others key shelf) + weight_under weigh key found ≡ weight_of weigh shelf
+      → weight_of weigh (option_map_or (λ x. (key, x) ∷ others key shelf) found shelf) ≡ weight_of weigh shelf
+  weight_at_front weigh key shelf None h = refl
+  weight_at_front weigh key shelf (Some x) h = omega (arith, weight-cons weigh (key, x) (others key shelf))
+
+  pub weight-to_front : (weigh : List ℕ → X → ℕ) (key : List ℕ) (shelf : List (List ℕ × X)) → AreApart shelf → weight_of weigh (to_front key shelf) ≡ weight_of weigh shelf
+  weight-to_front weigh key shelf apart = weight_at_front weigh key shelf (lookup (bytes_eq key) shelf) (weight-others weigh key shelf apart)
+
+  apart_at_front : (key : List ℕ) (shelf : List (List ℕ × X)) (found : Option X) → AreApart shelf → AreApart (option_map_or (λ x. (key, x) ∷ others key shelf) found shelf)
+  apart_at_front key shelf None apart = apart
+  apart_at_front key shelf (Some x) apart = AreApart-cons key x (others key shelf) (lookup-others key shelf) (AreApart-others key shelf apart)
+
+  pub AreApart-to_front : (key : List ℕ) (shelf : List (List ℕ × X)) → AreApart shelf → AreApart (to_front key shelf)
+  AreApart-to_front key shelf = apart_at_front key shelf (lookup (bytes_eq key) shelf)
+
+  pub weight-others-le : (weigh : List ℕ → X → ℕ) (key : List ℕ) (shelf : List (List ℕ × X)) → weight_of weigh (others key shelf) ≤ weight_of weigh shelf
+  weight-others-le weigh key [] = omega arith
+  weight-others-le weigh key (place ∷ older) =
+      let rest : weight_of weigh (others key older) ≤ weight_of weigh older = weight-others-le weigh key older in
+      elim (bytes_eq key place.0) as (λ b. weight_of weigh (cond (not b) (place ∷ others key older) (others key older)) ≤ weight_of weigh (place ∷ older)) [
+        | true ↦ omega (arith, weight-cons weigh place older)
+        | false ↦ omega (arith, weight-cons weigh place older, weight-cons weigh place (others key older))
+      ]

@@ -105,6 +105,8 @@ impl<T: Weighs> RecencyList<T> {
         requires { weight_of (place_weight T.weigh) self.now < 2 ^ 64 }
         ensures { result ≡ option_map length (shortest_suffix (λ suffix. nat_le need (weight_of (place_weight T.weigh) suffix)) (others key.now self.now)) }
     {
+        // Fewer than 2^63 places, so that their number fits.
+        let _places = self.cache.len();
         let mut freed = 0;
         let mut count = 0;
         for (name, place) in self.cache.iter().rev() {
@@ -156,8 +158,7 @@ impl<T: Weighs> RecencyList<T> {
 
     // Takes the last `n` places away. Answers how many bytes they weighed.
     fn pop_many(&mut self, n: usize) -> u64
-        requires count { n ≤ length self.old }
-        requires small { weight_of (place_weight T.weigh) self.old < 2 ^ 64 }
+        requires { weight_of (place_weight T.weigh) self.old < 2 ^ 64 }
         ensures places { self.new ≡ take (length self.old - n) self.old }
         ensures freed { weight_of (place_weight T.weigh) self.new + result ≡ weight_of (place_weight T.weigh) self.old }
     {
@@ -168,16 +169,15 @@ impl<T: Weighs> RecencyList<T> {
         freed
     }
 
-    // Takes the last place away. Answers how many bytes it weighed.
+    // Takes the last place away, if there is one. Answers how many bytes it weighed.
     fn pop_last(&mut self) -> u64
-        requires { 0 < length self.old }
         ensures places { self.new ≡ take (length self.old - 1) self.old }
         ensures freed { weight_of (place_weight T.weigh) self.new + result ≡ weight_of (place_weight T.weigh) self.old }
     {
-        match self.cache.pop_lru() {
-            Some((name, place)) => weigh_place(&name, &place),
-            None => 0,
-        }
+        let Some((name, place)) = self.cache.pop_lru() else {
+            return 0;
+        };
+        weigh_place(&name, &place)
     }
 
     // Whether the key's place is the last.
