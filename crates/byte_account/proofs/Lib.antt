@@ -3,3 +3,4 @@ pub mod ShelfLists
 pub mod LruLemmas
 pub mod EvictionLemmas
 pub mod RoomLemmas
+pub mod StickyMaps

@@ -6,6 +6,7 @@
 
 mod recency_list;
 mod room;
+mod sticky_table;
 mod weighs;
 
 pub use room::Room;
