@@ -1,5 +1,5 @@
 -- What taking places from the end of the list leaves and weighs.
-use Rattle.std.proofs.Common.{◌≡◌, ℕ, suc, ◌+◌, ◌-◌, ◌<◌, ◌≤◌, Bool, true, false, cond, not, ◌||◌, List, [], ◌∷◌, ◌++◌, map, length, take, drop, get_or, slice_get, filter, sum_by, Option, Some, None, IfSome, option_map, bytes_eq, nat_le, refl, sym, ap, ◌∙◌, subst, inl, inr, arith}
+use Rattle.std.proofs.Common.{◌≡◌, ℕ, suc, ◌+◌, ◌-◌, ◌<◌, ◌≤◌, Bool, true, false, cond, not, ◌||◌, List, [], ◌∷◌, ◌++◌, map, length, take, drop, get_or, slice_get, filter, sum_by, Option, Some, None, IfSome, IsSome, option_map, bytes_eq, nat_le, refl, sym, ap, ◌∙◌, subst, inl, inr, arith}
 use Rattle.std.specs.Option.{option_map_or, option_or, unwrap_or}
 use Rattle.std.specs.Map.{keys_of, lookup}
 use Rattle.std.proofs.lemmas.List.{append-nil, append_assoc, take_all, take_more, take-map, take-append-drop, map-append, length-append, length-map, length-take}
@@ -14,7 +14,7 @@ use Rattle.arc_core.specs.Places.{others, to_front, weight_of}
 use Rattle.arc_core.specs.Room.{survivors}
 use Rattle.byte_account.specs.ByBytes.{by_bytes, entry_by_bytes}
 use Rattle.byte_account.specs.Eviction.{is_last, to_back, PopsDownTo}
-use Rattle.byte_account.proofs.ShelfLists.{IsAbsent, IsAbsent-front, IsAbsent-before, AreApart-front, weight-others, weight_under, lookup-append, AreApart, IsAbsent-back, IsAbsent-differs, others-append, others-absent, weight-cons, same_key, own_key, AreApart-to_front, weight-to_front}
+use Rattle.byte_account.proofs.ShelfLists.{AreApart-cons, AreApart-tail, IsAbsent-head, IsAbsent, IsAbsent-front, IsAbsent-before, AreApart-front, weight-others, weight_under, lookup-append, AreApart, IsAbsent-back, IsAbsent-differs, others-append, others-absent, weight-cons, same_key, own_key, AreApart-to_front, weight-to_front}
 
 pub lt-leb-false : (a b : ℕ) → a < b → nat_le b a ≡ false
 lt-leb-false a b h = grind (arith, nat_tests)
@@ -227,3 +227,30 @@ module _ {X : Type 0} where
       → AreApart next
   PopsDownTo-aside_apart weigh key n old now aside next freed left k pops apart aside_is next_is =
       subst AreApart (sym (next_is ∙ ap (take k) aside_is)) (AreApart-take k (to_front key now) (AreApart-to_front key now (PopsDownTo-apart weigh key n old now freed left pops apart)))
+
+  -- what survives was there
+  IsAbsent-survivors : (key : List ℕ) (n : ℕ) (q : List ℕ) (shelf : List (List ℕ × X)) → IsAbsent q shelf → IsAbsent q (survivors key n shelf)
+  IsAbsent-survivors key n q [] absent = refl
+  IsAbsent-survivors key n q (place ∷ older) absent =
+      let apart : bytes_eq q place.0 ≡ false = IsAbsent-differs q place older absent in
+      let rest : IsAbsent q (survivors key n older) = IsAbsent-survivors key n q older (IsAbsent-back q (place ∷ []) older absent) in
+      elim (bytes_eq key place.0 || nat_le n (length (others key older))) as (λ b. IsAbsent q (cond b (place ∷ survivors key n older) (survivors key n older))) [
+        | true ↦ ap (λ b. cond b (Some place.1) (lookup (bytes_eq q) (survivors key n older))) apart ∙ rest
+        | false ↦ rest
+      ]
+
+  survivor_was : (key : List ℕ) (n : ℕ) (q : List ℕ) (shelf : List (List ℕ × X)) (was : Option X) → lookup (bytes_eq q) shelf ≡ was → IsSome (lookup (bytes_eq q) (survivors key n shelf)) → IsSome was
+  survivor_was key n q shelf None h there = absurd (let none : IsAbsent q (survivors key n shelf) = IsAbsent-survivors key n q shelf h in cc)
+  survivor_was key n q shelf (Some x) h there = refl
+
+  pub is_some-survivors : (key : List ℕ) (n : ℕ) (q : List ℕ) (shelf : List (List ℕ × X)) → IsSome (lookup (bytes_eq q) (survivors key n shelf)) → IsSome (lookup (bytes_eq q) shelf)
+  is_some-survivors key n q shelf = survivor_was key n q shelf (lookup (bytes_eq q) shelf) refl
+
+  pub AreApart-survivors : (key : List ℕ) (n : ℕ) (shelf : List (List ℕ × X)) → AreApart shelf → AreApart (survivors key n shelf)
+  AreApart-survivors key n [] apart = apart
+  AreApart-survivors key n (place ∷ older) apart =
+      let rest : AreApart (survivors key n older) = AreApart-survivors key n older (AreApart-tail place older apart) in
+      elim (bytes_eq key place.0 || nat_le n (length (others key older))) as (λ b. AreApart (cond b (place ∷ survivors key n older) (survivors key n older))) [
+        | true ↦ AreApart-cons place.0 place.1 (survivors key n older) (IsAbsent-survivors key n place.0 older (IsAbsent-head place older apart)) rest
+        | false ↦ rest
+      ]

@@ -4,3 +4,5 @@ pub mod LruLemmas
 pub mod EvictionLemmas
 pub mod RoomLemmas
 pub mod StickyMaps
+pub mod StickySums
+pub mod PlacesLaws

@@ -199,3 +199,55 @@ module _ {X : Type 0} where
         | true ↦ omega (arith, weight-cons weigh place older)
         | false ↦ omega (arith, weight-cons weigh place older, weight-cons weigh place (others key older))
       ]
+
+  -- moving a place to the front changes nothing that a look-up finds
+  looked_at_front : (key q : List ℕ) (shelf : List (List ℕ × X)) (found : Option X) → lookup (bytes_eq key) shelf ≡ found → (b : Bool) → bytes_eq q key ≡ b
+      → lookup (bytes_eq q) (option_map_or (λ x. (key, x) ∷ others key shelf) found shelf) ≡ lookup (bytes_eq q) shelf
+  looked_at_front key q shelf None h b e = refl
+  looked_at_front key q shelf (Some x) h true e = ap (λ t. cond t (Some x) (lookup (bytes_eq q) (others key shelf))) e ∙ sym (ap (λ k. lookup (bytes_eq k) shelf) (same_key q key e) ∙ h)
+  looked_at_front key q shelf (Some x) h false e = ap (λ t. cond t (Some x) (lookup (bytes_eq q) (others key shelf))) e ∙ lookup-others_apart key q shelf e
+
+  pub lookup-to_front : (key q : List ℕ) (shelf : List (List ℕ × X)) → lookup (bytes_eq q) (to_front key shelf) ≡ lookup (bytes_eq q) shelf
+  lookup-to_front key q shelf = looked_at_front key q shelf (lookup (bytes_eq key) shelf) refl (bytes_eq q key) refl
+
+  pub AreApart-set_value : (key : List ℕ) (x : X) (shelf : List (List ℕ × X)) → AreApart shelf → AreApart (set_value (bytes_eq key) shelf x)
+  AreApart-set_value key x shelf apart = subst (IsDistinct bytes_eq) (sym (keys_of-set_value key x shelf)) apart
+
+  shelved_by : (key : List ℕ) (x : X) (shelf : List (List ℕ × X)) (found : Option X) → lookup (bytes_eq key) shelf ≡ found → AreApart shelf → AreApart (cond (is_some found) (set_value (bytes_eq key) shelf x) ((key, x) ∷ shelf))
+  shelved_by key x shelf None h apart = AreApart-cons key x shelf h apart
+  shelved_by key x shelf (Some old) h apart = AreApart-set_value key x shelf apart
+
+  pub AreApart-shelved : (key : List ℕ) (x : X) (shelf : List (List ℕ × X)) → AreApart shelf → AreApart (shelved key x shelf)
+  AreApart-shelved key x shelf = shelved_by key x shelf (lookup (bytes_eq key) shelf) refl
+
+  pub shelved-new : (key : List ℕ) (x : X) (shelf : List (List ℕ × X)) → IsAbsent key shelf → shelved key x shelf ≡ (key, x) ∷ shelf
+  shelved-new key x shelf absent = ap (λ o. cond (is_some o) (set_value (bytes_eq key) shelf x) ((key, x) ∷ shelf)) absent
+
+  pub shelved-held : (key : List ℕ) (x old : X) (shelf : List (List ℕ × X)) → lookup (bytes_eq key) shelf ≡ Some old → shelved key x shelf ≡ set_value (bytes_eq key) shelf x
+  shelved-held key x old shelf held = ap (λ o. cond (is_some o) (set_value (bytes_eq key) shelf x) ((key, x) ∷ shelf)) held
+
+  looked_at_shelved : (key q : List ℕ) (x : X) (shelf : List (List ℕ × X)) (found : Option X) → bytes_eq q key ≡ false → lookup (bytes_eq q) (cond (is_some found) (set_value (bytes_eq key) shelf x) ((key, x) ∷ shelf)) ≡ lookup (bytes_eq q) shelf
+  looked_at_shelved key q x shelf None apart = ap (λ t. cond t (Some x) (lookup (bytes_eq q) shelf)) apart
+  looked_at_shelved key q x shelf (Some old) apart = lookup-set_value_apart key q x shelf apart
+
+  pub lookup-shelved_apart : (key q : List ℕ) (x : X) (shelf : List (List ℕ × X)) → bytes_eq q key ≡ false → lookup (bytes_eq q) (shelved key x shelf) ≡ lookup (bytes_eq q) shelf
+  lookup-shelved_apart key q x shelf = looked_at_shelved key q x shelf (lookup (bytes_eq key) shelf)
+
+  found_at_shelved : (key : List ℕ) (x : X) (shelf : List (List ℕ × X)) (found : Option X) → lookup (bytes_eq key) shelf ≡ found → lookup (bytes_eq key) (cond (is_some found) (set_value (bytes_eq key) shelf x) ((key, x) ∷ shelf)) ≡ Some x
+  found_at_shelved key x shelf None h = ap (λ t. cond t (Some x) (lookup (bytes_eq key) shelf)) (own_key key)
+  found_at_shelved key x shelf (Some old) h = lookup-set_value key x shelf (ap is_some h)
+
+  pub lookup-shelved : (key : List ℕ) (x : X) (shelf : List (List ℕ × X)) → lookup (bytes_eq key) (shelved key x shelf) ≡ Some x
+  lookup-shelved key x shelf = found_at_shelved key x shelf (lookup (bytes_eq key) shelf) refl
+
+  weight_at_shelved : (weigh : List ℕ → X → ℕ) (key : List ℕ) (x : X) (shelf : List (List ℕ × X)) (found : Option X) → lookup (bytes_eq key) shelf ≡ found
+      → weight_of weigh (cond (is_some found) (set_value (bytes_eq key) shelf x) ((key, x) ∷ shelf)) + weight_under weigh key found ≡ weight_of weigh shelf + weigh key x
+  weight_at_shelved weigh key x shelf None h = omega (arith, weight-cons weigh (key, x) shelf)
+  weight_at_shelved weigh key x shelf (Some old) h = weight-set_value weigh key old x shelf h
+
+  pub weight-shelved : (weigh : List ℕ → X → ℕ) (key : List ℕ) (x : X) (shelf : List (List ℕ × X)) → weight_of weigh (shelved key x shelf) + weight_under weigh key (lookup (bytes_eq key) shelf) ≡ weight_of weigh shelf + weigh key x
+  weight-shelved weigh key x shelf = weight_at_shelved weigh key x shelf (lookup (bytes_eq key) shelf) refl
+
+  pub is_some-set_value : (key q : List ℕ) (x : X) (shelf : List (List ℕ × X)) → is_some (lookup (bytes_eq q) (set_value (bytes_eq key) shelf x)) ≡ is_some (lookup (bytes_eq q) shelf)
+  is_some-set_value key q x [] = refl
+  is_some-set_value key q x (place ∷ older) = grind (arith, is_some-set_value key q x older)
