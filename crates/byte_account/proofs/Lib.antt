@@ -6,3 +6,5 @@ pub mod RoomLemmas
 pub mod StickyMaps
 pub mod StickySums
 pub mod PlacesLaws
+pub mod AccountingLaws
+pub mod RoomLaws

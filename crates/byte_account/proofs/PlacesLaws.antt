@@ -4,7 +4,7 @@ use Rattle.std.specs.Option.{option_or}
 use Rattle.std.specs.Map.{lookup, set_value}
 use Rattle.std.specs.FinMap as finite
 use Rattle.arc_core.specs.Places.{Places, HasEachKeyOnce, found, others, shelved, touched, placed, refilled, without, weight_of, total_of}
-use Rattle.byte_account.proofs.ShelfLists.{IsAbsent, same_key, own_key, others-absent, lookup-others, lookup-others_apart, AreApart-others, AreApart-to_front, AreApart-set_value, AreApart-shelved, lookup-to_front, lookup-set_value, lookup-set_value_apart, is_some-set_value, lookup-shelved, lookup-shelved_apart, set_value-absent, weight_under, weight-others, weight-to_front, weight-set_value, weight-shelved}
+use Rattle.byte_account.proofs.ShelfLists.{IsAbsent, same_key, own_key, others-absent, lookup-others, lookup-others_apart, AreApart-others, AreApart-to_front, AreApart-set_value, AreApart-shelved, lookup-to_front, lookup-set_value, lookup-set_value_apart, is_some-set_value, lookup-shelved_apart, shelved-new, set_value-absent, weight_under, weight-others, weight-to_front, weight-set_value, weight-shelved}
 use Rattle.arc_core.specs.Room.{evicted}
 use Rattle.byte_account.proofs.EvictionLemmas.{AreApart-survivors, is_some-survivors}
 use Rattle.byte_account.proofs.StickyMaps.{get-insert, get-remove}
@@ -33,8 +33,38 @@ module _ {X : Type 0} where
   pub found-sticky : (key : List ℕ) (places : Places X) → IsAbsent key places.shelf → found key places ≡ finite.get places.sticky key
   found-sticky key places h = ap (λ o. option_or o (finite.get places.sticky key)) h
 
-  not_sticky : (places : Places X) → HasEachKeyOnce places → (key : List ℕ) (x : X) → lookup (bytes_eq key) places.shelf ≡ Some x → finite.get places.sticky key ≡ None
-  not_sticky places once key x h = once.on_one_side key (ap is_some h)
+  pub some_of : (o : Option X) → IsSome o → (x : X) × (o ≡ Some x)
+  some_of None there = absurd (cc)
+  some_of (Some x) there = (x, refl)
+
+  not_on_shelf_at : (places : Places X) → HasEachKeyOnce places → (key : List ℕ) (on_shelf : Option X) → lookup (bytes_eq key) places.shelf ≡ on_shelf → IsSome (finite.get places.sticky key) → on_shelf ≡ None
+  not_on_shelf_at places once key None h there = refl
+  not_on_shelf_at places once key (Some x) h there = absurd (let none : finite.get places.sticky key ≡ None = once.on_one_side key (ap is_some h) in cc)
+
+  -- what is among the sticky items is not on the shelf
+  pub not_on_shelf : (places : Places X) → HasEachKeyOnce places → (key : List ℕ) → IsSome (finite.get places.sticky key) → IsAbsent key places.shelf
+  not_on_shelf places once key there = not_on_shelf_at places once key (lookup (bytes_eq key) places.shelf) refl there
+
+  -- a new place, on either side
+  pub placed-new_sticky : (key : List ℕ) (x : X) (places new : Places X) → found key places ≡ None → new.shelf ≡ places.shelf → new.sticky ≡ finite.insert places.sticky key x → new.limit ≡ places.limit → new ≡ placed true key x places
+  placed-new_sticky key x places new absent shelf sticky limit =
+      let same = shelf ∙ sym (others-absent key places.shelf (absent_from_shelf key places absent)) in
+      λ i. record { shelf = same i; sticky = sticky i; limit = limit i }
+
+  pub placed-new_listed : (key : List ℕ) (x : X) (places new : Places X) → found key places ≡ None → new.shelf ≡ (key, x) ∷ places.shelf → new.sticky ≡ places.sticky → new.limit ≡ places.limit → new ≡ placed false key x places
+  placed-new_listed key x places new absent shelf sticky limit =
+      let first = shelf ∙ sym (shelved-new key x places.shelf (absent_from_shelf key places absent)) in
+      let same = sticky ∙ sym (remove-absent places.sticky key (absent_from_sticky key places absent)) in
+      λ i. record { shelf = first i; sticky = same i; limit = limit i }
+
+  -- a place that moves to the other side
+  pub placed-moved_sticky : (key : List ℕ) (x : X) (places new : Places X) → new.shelf ≡ others key places.shelf → new.sticky ≡ finite.insert places.sticky key x → new.limit ≡ places.limit → new ≡ placed true key x places
+  placed-moved_sticky key x places new shelf sticky limit = λ i. record { shelf = shelf i; sticky = sticky i; limit = limit i }
+
+  pub placed-moved_listed : (key : List ℕ) (x : X) (places new : Places X) → IsAbsent key places.shelf → new.shelf ≡ (key, x) ∷ places.shelf → new.sticky ≡ finite.remove places.sticky key → new.limit ≡ places.limit → new ≡ placed false key x places
+  placed-moved_listed key x places new absent shelf sticky limit =
+      let first = shelf ∙ sym (shelved-new key x places.shelf absent) in
+      λ i. record { shelf = first i; sticky = sticky i; limit = limit i }
 
   -- each key has one place at most, after each change
 

@@ -1,3 +1,6 @@
+pub mod Accounting
 pub mod ByBytes
 pub mod Eviction
+pub mod PlacesCode
+pub mod ShelfWords
 pub mod Weight

@@ -6,8 +6,10 @@
 
 mod recency_list;
 mod room;
+mod shelf;
 mod sticky_table;
 mod weighs;
 
 pub use room::Room;
+pub use shelf::Shelf;
 pub use weighs::Weighs;

@@ -1,5 +1,5 @@
 //! The list of the places that may be evicted, most recently used first.
-ghost use Rattle.std.specs.Prelude.{◌≡◌, ◌+◌, ◌-◌, ◌^◌, ◌<◌, ◌≤◌, List, ℕ, [], ◌∷◌, Option, Some, None, length, bytes_eq, option_map, option_copied, take, nat_le, IfOk, IfErr, IfSome, OnOk, OnErr, IsSome};
+ghost use Rattle.std.specs.Prelude.{◌≡◌, ◌+◌, ◌-◌, ◌^◌, ◌<◌, ◌≤◌, List, ℕ, [], ◌∷◌, Option, Some, None, length, bytes_eq, option_map, option_copied, take, nat_le, IfOk, IfErr, IfSome, OnOk, OnErr, MatchResult};
 ghost use Rattle.std.specs.List.{IsDistinct};
 ghost use Rattle.std.specs.Map.{keys_of, lookup, set_value};
 ghost use Rattle.arc_core.specs.Places.{others, to_front, weight_of};
@@ -54,9 +54,14 @@ impl<T: Weighs> RecencyList<T> {
         self.cache.peek(key)
     }
 
-    /// Puts something else into the key's place, where it has one, and hands out what stood there.
-    pub(crate) fn replace(&mut self, key: &[u8], place: Option<T>) -> Option<Option<T>>
-        ensures old { result ≡ lookup (bytes_eq key.now) self.old }
+    /// Puts something else into the key's place and hands out what stood there. Where the key has no place, hands back
+    /// what it was given.
+    pub(crate) fn replace(
+        &mut self,
+        key: &[u8],
+        place: Option<T>,
+    ) -> Result<Option<T>, Option<T>>
+        ensures old { MatchResult result (λ old. lookup (bytes_eq key.now) self.old ≡ Some old) (λ refused. (lookup (bytes_eq key.now) self.old ≡ None) × (refused ≡ place)) }
         ensures new { self.new ≡ set_value (bytes_eq key.now) self.old place }
     {
         replace_in(&mut self.cache, key, place)
@@ -210,14 +215,14 @@ fn replace_in<T: Weighs>(
     cache: &mut LruCache<Vec<u8>, Option<T>>,
     key: &[u8],
     place: Option<T>,
-) -> Option<Option<T>>
-    ensures old { result ≡ lookup (λ name. bytes_eq key.now name.items) cache.old.entries }
+) -> Result<Option<T>, Option<T>>
+    ensures old { MatchResult result (λ old. lookup (λ name. bytes_eq key.now name.items) cache.old.entries ≡ Some old) (λ refused. (lookup (λ name. bytes_eq key.now name.items) cache.old.entries ≡ None) × (refused ≡ place)) }
     ensures new { cache.new.entries ≡ set_value (λ name. bytes_eq key.now name.items) cache.old.entries place }
     ensures cap { cache.new.cap ≡ cache.old.cap }
 {
     match cache.peek_mut(key) {
-        Some(old) => Some(mem::replace(old, place)),
-        None => None,
+        Some(old) => Ok(mem::replace(old, place)),
+        None => Err(place),
     }
 }
 

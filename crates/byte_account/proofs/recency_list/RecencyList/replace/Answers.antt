@@ -5,7 +5,7 @@ use Rattle.byte_account.proofs.ByBytesLemmas.{lookup-by_bytes, set_value-by_byte
 use Rattle.byte_account.proofs.recency_list.RecencyList.replace.Goals as goal
 
 pub returns-clause-old : goal.returns-clause-old
-returns-clause-old g c = rw (← c.self.view_is) (c.replace_in.ensures.old ∙ sym (lookup-by_bytes (λ key. key.items) c.args.key.now c.self.inside.cache.entries))
+returns-clause-old g c = rw (← c.self.view_is, lookup-by_bytes (λ key. key.items) c.args.key.now c.self.inside.cache.entries) c.replace_in.ensures.old
 
 pub returns-clause-new : goal.returns-clause-new
 returns-clause-new g c =
