@@ -1,11 +1,12 @@
 //! The shelf: items under their keys, their bytes accounted, and room found by the least eviction.
-ghost use Rattle.std.specs.Prelude.{◌≡◌, ◌+◌, ◌≤◌, not, bytes_eq, Option, Some, None, length, option_copied, if◌then◌else◌, IfOk, OnOk, OnErr, IsSome};
+ghost use Rattle.std.specs.Prelude.{◌≡◌, ◌+◌, ◌≤◌, ◌≤ℤ◌, pos, not, bytes_eq, Option, Some, None, length, option_copied, if◌then◌else◌, IfOk, OnOk, OnErr, IsSome};
 ghost use Rattle.std.specs.Option.{option_or, option_flatten};
 ghost use Rattle.std.specs.List.{IsDistinct};
 ghost use Rattle.std.specs.Map.{keys_of, lookup, set_value};
 ghost use Rattle.std.specs.FinMap as finite;
 ghost use Rattle.arc_core.specs.Places.{Places, HasEachKeyOnce, empty_places, found, others, count_of, total_of, touched, placed, refilled, without};
 ghost use Rattle.arc_core.specs.Room.{room, evicted};
+ghost use Rattle.byte_account.specs.LeastEviction.{IsLeastEviction};
 ghost use Rattle.byte_account.specs.ShelfWords.{added_by, item_at, on_side, restuck, cancelled, room_answer};
 ghost use Rattle.byte_account.specs.Weight.{place_weight};
 
@@ -126,7 +127,9 @@ impl<T: Weighs> Shelf<T> {
     /// `Fits` has the least number of evictions, 0 where `extra` is not above 0. `Nothing` comes exactly where not even
     /// evicting all of these places makes room. (This server's own rule.)
     pub fn room(&self, key: &[u8], extra: i64) -> Room
-        ensures { result ≡ room_answer (room (place_weight T.weigh) self.now key.now extra) }
+        ensures room { result ≡ room_answer (room (place_weight T.weigh) self.now key.now extra) }
+        ensures least { IsLeastEviction (place_weight T.weigh) self.now key.now extra result }
+        ensures nothing_added { extra ≤ℤ pos 0 → result ≡ Room.Fits 0 }
     {
         let spare = self.limit - self.total;
         let need = added(extra).saturating_sub(spare);
