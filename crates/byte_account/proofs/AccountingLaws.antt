@@ -19,7 +19,7 @@ module _ {X : Type 0} where
   refilled-absent key x places absent =
       let on_shelf = set_value-absent (bytes_eq key) places.shelf x (absent_from_shelf key places absent) in
       let in_sticky : cond (finite.contains_key places.sticky key) (finite.insert places.sticky key x) places.sticky ≡ places.sticky =
-          ap (λ o. cond (is_some o) (finite.insert places.sticky key x) places.sticky) (absent_from_sticky key places absent) in
+      ap (λ o. cond (is_some o) (finite.insert places.sticky key x) places.sticky) (absent_from_sticky key places absent) in
       λ i. record { shelf = on_shelf i; sticky = in_sticky i; limit = places.limit }
 
   same_limit : (sticky : Bool) (key : List ℕ) (x : X) (places : Places X) → (placed sticky key x places).limit ≡ places.limit

@@ -90,7 +90,7 @@ module _ {X : Type 0} where
       ∙ ap (λ b. cond b (place ∷ survivors key n gone) (survivors key n gone)) late
       ∙ survivors-gone key n gone rest (omega arith)
 
-  survivors-stay : (key : List ℕ) (n : ℕ) (place : List ℕ × X) (older : List (List ℕ × X)) → n ≤ length (others key older) → survivors key n (place ∷ older) ≡ place ∷ survivors key n older
+  pub survivors-stay : (key : List ℕ) (n : ℕ) (place : List ℕ × X) (older : List (List ℕ × X)) → n ≤ length (others key older) → survivors key n (place ∷ older) ≡ place ∷ survivors key n older
   survivors-stay key n place older enough =
       ap (λ b. cond (bytes_eq key place.0 || b) (place ∷ survivors key n older) (survivors key n older)) (le-leb n (length (others key older)) enough)
       ∙ ap (λ b. cond b (place ∷ survivors key n older) (survivors key n older)) (or-true (bytes_eq key place.0))
@@ -100,10 +100,10 @@ module _ {X : Type 0} where
   survivors-front key n [] gone absent count = survivors-gone key n gone absent (omega arith)
   survivors-front key n (place ∷ front) gone absent count =
       let all : length (others key (front ++ gone)) ≡ length (others key front) + length gone =
-          ap length (others-append key front gone) ∙ length-append (others key front) (others key gone) ∙ ap (λ k. length (others key front) + length k) (others-absent key gone absent) in
+      ap length (others-append key front gone) ∙ length-append (others key front) (others key gone) ∙ ap (λ k. length (others key front) + length k) (others-absent key gone absent) in
       survivors-stay key n place (front ++ gone) (omega arith) ∙ ap (λ kept. place ∷ kept) (survivors-front key n front gone absent count)
 
-  survivors-go : (key : List ℕ) (n : ℕ) (place : List ℕ × X) (older : List (List ℕ × X)) → bytes_eq key place.0 ≡ false → length (others key older) < n → survivors key n (place ∷ older) ≡ survivors key n older
+  pub survivors-go : (key : List ℕ) (n : ℕ) (place : List ℕ × X) (older : List (List ℕ × X)) → bytes_eq key place.0 ≡ false → length (others key older) < n → survivors key n (place ∷ older) ≡ survivors key n older
   survivors-go key n place older apart few =
       ap (λ b. cond (b || nat_le n (length (others key older))) (place ∷ survivors key n older) (survivors key n older)) apart
       ∙ ap (λ b. cond b (place ∷ survivors key n older) (survivors key n older)) (lt-leb-false (length (others key older)) n few)
@@ -132,7 +132,7 @@ module _ {X : Type 0} where
       let apart : bytes_eq key place.0 ≡ false = IsAbsent-differs key place front before in
       let rest : IsAbsent key front = IsAbsent-back key (place ∷ []) front before in
       let count : length (others key older) ≡ length front + length gone =
-          ap length (others-append key front ((key, x) ∷ gone) ∙ ap (λ k. k ++ others key ((key, x) ∷ gone)) (others-absent key front rest) ∙ ap (λ k. front ++ k) (others-key key x gone ∙ others-absent key gone behind)) ∙ length-append front gone in
+      ap length (others-append key front ((key, x) ∷ gone) ∙ ap (λ k. k ++ others key ((key, x) ∷ gone)) (others-absent key front rest) ∙ ap (λ k. front ++ k) (others-key key x gone ∙ others-absent key gone behind)) ∙ length-append front gone in
       let later = survivors-aside key left x front gone rest behind in
       elim (cases_lt (length front) left) [
         | inl few ↦ survivors-go key n place older apart (omega arith) ∙ later
@@ -183,7 +183,7 @@ module _ {X : Type 0} where
   aside_and_back key left x front gone aside next before behind enough aside_is next_is =
       let kept = take (length front - left) front in
       let shorter : next ≡ (key, x) ∷ kept =
-          next_is ∙ ap (λ xs. take (length xs - left) xs) aside_is ∙ take-one_more (length ((key, x) ∷ front) - left) (length front - left) (key, x) front (omega arith) in
+      next_is ∙ ap (λ xs. take (length xs - left) xs) aside_is ∙ take-one_more (length ((key, x) ∷ front) - left) (length front - left) (key, x) front (omega arith) in
       ap (to_back key) shorter ∙ to_back-front key x kept (IsAbsent-take key (length front - left) front before) ∙ sym (survivors-aside key left x front gone before behind)
 
   pub evicted_aside : (weigh : List ℕ → X → ℕ) (key : List ℕ) (n : ℕ) (old now aside next : List (List ℕ × X)) (freed left : ℕ) → PopsDownTo weigh key n old now freed left → AreApart old → n ≤ length (others key old) → 0 < left
@@ -197,9 +197,9 @@ module _ {X : Type 0} where
       let old_is : old ≡ front ++ (key, x) ∷ gone = pops.split ∙ ap (λ k. k ++ gone) now_is ∙ append_assoc front ((key, x) ∷ []) gone in
       let before : IsAbsent key front = IsAbsent-before front gone (key, x) (subst AreApart old_is apart) in
       let rest : length (others key old) ≡ length front + length gone =
-          ap (λ k. length (others key k)) old_is
-          ∙ ap length (others-append key front ((key, x) ∷ gone) ∙ ap (λ k. k ++ others key ((key, x) ∷ gone)) (others-absent key front before) ∙ ap (λ k. front ++ k) (others-key key x gone ∙ others-absent key gone pops.spared))
-          ∙ length-append front gone in
+      ap (λ k. length (others key k)) old_is
+      ∙ ap length (others-append key front ((key, x) ∷ gone) ∙ ap (λ k. k ++ others key ((key, x) ∷ gone)) (others-absent key front before) ∙ ap (λ k. front ++ k) (others-key key x gone ∙ others-absent key gone pops.spared))
+      ∙ length-append front gone in
       let counted : length gone + left ≡ n = pops.count in
       aside_and_back key left x front gone aside next before pops.spared (omega arith) (aside_is ∙ ap (to_front key) now_is ∙ to_front-last key x front before) next_is
       ∙ ap (λ k. survivors key (length gone + left) k) (sym old_is) ∙ ap (λ m. survivors key m old) counted

@@ -8,3 +8,5 @@ pub mod StickySums
 pub mod PlacesLaws
 pub mod AccountingLaws
 pub mod RoomLaws
+pub mod FoundLaws
+pub mod EvictionLaws

@@ -32,8 +32,8 @@ module _ {X : Type 0} (weigh : List ℕ → X → ℕ) where
   room-by_need places total key extra accounted =
       let within : total_of weigh places ≤ places.limit = subst (λ n. n ≤ places.limit) accounted.sum accounted.within in
       let same : (suffix : List (List ℕ × X)) → fits places.limit (total_of weigh places) extra (weight_of weigh suffix) ≡ is_enough weigh (added_by extra - (places.limit - total)) suffix =
-          λ suffix. fits-by_need places.limit (total_of weigh places) extra (weight_of weigh suffix) within
-          ∙ ap (λ n. nat_le (added_by extra - (places.limit - n)) (weight_of weigh suffix)) (sym accounted.sum) in
+      λ suffix. fits-by_need places.limit (total_of weigh places) extra (weight_of weigh suffix) within
+      ∙ ap (λ n. nat_le (added_by extra - (places.limit - n)) (weight_of weigh suffix)) (sym accounted.sum) in
       λ i. shortest_suffix (λ suffix. same suffix i) (others key places.shelf)
 
   -- what a search for so many bytes found is room
@@ -53,10 +53,10 @@ nothing_from_count (Some suffix) h = absurd (cc)
 
 -- The shortest suffix that is enough.
 
-last_of-cons : {A : Type 0} (k : ℕ) (x : A) (xs : List A) → k ≤ length xs → last_of k (x ∷ xs) ≡ last_of k xs
+pub last_of-cons : {A : Type 0} (k : ℕ) (x : A) (xs : List A) → k ≤ length xs → last_of k (x ∷ xs) ≡ last_of k xs
 last_of-cons k x xs few = ap (λ n. drop n (x ∷ xs)) (let more : length (x ∷ xs) - k ≡ suc (length xs - k) = omega arith in more)
 
-last_of-whole : {A : Type 0} (k : ℕ) (xs : List A) → k ≡ length xs → last_of k xs ≡ xs
+pub last_of-whole : {A : Type 0} (k : ℕ) (xs : List A) → k ≡ length xs → last_of k xs ≡ xs
 last_of-whole k xs whole = ap (λ n. drop n xs) (let none : length xs - k ≡ 0 = omega arith in none)
 
 none_first : {A : Type 0} (a b : Option A) → option_or a b ≡ None → a ≡ None

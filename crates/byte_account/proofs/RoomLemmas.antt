@@ -86,7 +86,7 @@ module _ {X : Type 0} (weigh : List ℕ → X → ℕ) (need : ℕ) where
         let split : others key all ≡ others key rest ++ others key w.walked = ap (others key) w.split ∙ others-append key rest w.walked in
         ap (λ n. Some n) w.counts
         ∙ sym (ap (option_map length) (ap (shortest_suffix is_enough) split
-          ∙ shortest_suffix-front is_enough (others key rest) (others key w.walked) (others key w.walked) (shortest_suffix-whole (others key w.walked) (omega arith) w.needed)))
+        ∙ shortest_suffix-front is_enough (others key rest) (others key w.walked) (others key w.walked) (shortest_suffix-whole (others key w.walked) (omega arith) w.needed)))
 
     pub IsWalked-short : (rest : List (List ℕ × X)) (freed count : ℕ) → IsWalked rest freed count → rest ≡ [] → freed < need → None ≡ option_map length (shortest_suffix is_enough (others key all))
     IsWalked-short rest freed count w done few =

@@ -104,7 +104,7 @@ module _ {K X : Type 0} (bytes : K → List ℕ) where
   set_by key x es None e = ap (finite.from_entries {R = slice_cmp nat_cmp}) (set_value-absent (bytes_eq key) es x e)
   set_by key x es (Some old) e =
       same_map _ _ (λ q. get-of (set_value (bytes_eq key) es x) q ∙ set_at key x es (ap is_some e) q (bytes_eq q key) refl
-        ∙ ap (cond (bytes_eq q key) (Some x)) (sym (get-of es q)) ∙ sym (get-insert (finite.from_entries es) key x q))
+      ∙ ap (cond (bytes_eq q key) (Some x)) (sym (get-of es q)) ∙ sym (get-insert (finite.from_entries es) key x q))
 
   pub replaced : (key : List ℕ) (x : X) (es : List (K × X)) → map_by_bytes bytes (set_value (has_bytes bytes key) es x) ≡ refilled_by key x (map_by_bytes bytes es) (finite.get (map_by_bytes bytes es) key)
   replaced key x es =

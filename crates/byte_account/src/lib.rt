@@ -13,3 +13,6 @@ mod weighs;
 pub use room::Room;
 pub use shelf::Shelf;
 pub use weighs::Weighs;
+
+#[cfg(test)]
+mod tests;

@@ -10,10 +10,10 @@ ghost use Rattle.byte_account.specs.LeastEviction.{IsLeastEviction};
 ghost use Rattle.byte_account.specs.ShelfWords.{added_by, item_at, on_side, restuck, cancelled, room_answer};
 ghost use Rattle.byte_account.specs.Weight.{place_weight};
 
+use crate::Weighs;
 use crate::recency_list::RecencyList;
 use crate::room::Room;
 use crate::sticky_table::StickyTable;
-use crate::Weighs;
 use arc_core::{Key, NoMemory};
 use std::alloc::Global;
 use std::marker::Model;

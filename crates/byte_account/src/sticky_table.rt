@@ -10,8 +10,8 @@ ghost use Rattle.std.specs.HashMap.{spare};
 ghost use Rattle.arc_core.specs.Places.{others};
 ghost use Rattle.byte_account.specs.ByBytes.{map_by_bytes};
 
-use crate::recency_list::RecencyList;
 use crate::Weighs;
+use crate::recency_list::RecencyList;
 use arc_core::NoMemory;
 use std::alloc::Global;
 use std::collections::HashMap;

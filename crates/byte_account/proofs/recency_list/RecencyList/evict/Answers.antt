@@ -32,7 +32,7 @@ pub returns-clause-places : goal.returns-clause-places
 returns-clause-places g c =
     c.demote.ensures
     ∙ evicted_aside (place_weight g.T.Weighs.weigh) c.args.key.now c.args.n c.args.self.now c.pop_down_to-freed.new.self c.promote.new.self c.pop_many-more.new.self c.pop_down_to-freed.result.0 c.pop_down_to-freed.result.1
-      c.pop_down_to-freed.ensures c.requires.apart c.requires.count (omega arith) c.promote.ensures c.pop_many-more.ensures.places
+    c.pop_down_to-freed.ensures c.requires.apart c.requires.count (omega arith) c.promote.ensures c.pop_many-more.ensures.places
 
 pub returns-clause-freed : goal.returns-clause-freed
 returns-clause-freed g c =

@@ -18,8 +18,8 @@ walked-other : (g : _) (c : goal.After-weigh_place-freed g)
 walked-other g c =
     rw c.weigh_place-freed.ensures
     (IsWalked-other (place_weight g.T.Weighs.weigh) c.args.need c.args.key.now c.args.self.now _ _ (c.in-Some.name.now.items, c.in-Some.place.now) c.loop-name.freed c.loop-name.count c.loop-name.invariant.2 c.if-freed-need.false
-      (by_bytes-push (λ key. key.items) (rev_source c.loop-name.name-iterator) (rev_source c.next.new.self) (c.in-Some.name.now, c.in-Some.place.now) c.in-Some.ensures.steps)
-      (ap (bytes_eq c.args.key.now) (sym c.as_slice.ensures.value) ∙ differs c.ne.result (bytes_eq c.args.key.now c.as_slice.result.now) c.if-ne.true c.ne.ensures))
+    (by_bytes-push (λ key. key.items) (rev_source c.loop-name.name-iterator) (rev_source c.next.new.self) (c.in-Some.name.now, c.in-Some.place.now) c.in-Some.ensures.steps)
+    (ap (bytes_eq c.args.key.now) (sym c.as_slice.ensures.value) ∙ differs c.ne.result (bytes_eq c.args.key.now c.as_slice.result.now) c.if-ne.true c.ne.ensures))
 
 pub returns-then-freed-need : goal.returns-then-freed-need
 returns-then-freed-need g c = IsWalked-enough (place_weight g.T.Weighs.weigh) c.args.need c.args.key.now c.args.self.now _ c.loop-name.freed c.loop-name.count c.loop-name.invariant.2 c.if-freed-need.true

@@ -9,4 +9,4 @@ returns-in-Ok-clause-ok g c =
     let cache = c.self.inside.cache in
     let room : length cache.entries ≤ cache.cap - 1 = omega arith in
     rw (← c.self.view_is) (by_bytes-put (λ key. key.items) cache c.put.new.self c.args.key c.args.place c.in-Ok.ensures.entries
-      (rw (← c.self.view_is, lookup-by_bytes (λ key. key.items) c.args.key.items cache.entries) at c.requires) room)
+    (rw (← c.self.view_is, lookup-by_bytes (λ key. key.items) c.args.key.items cache.entries) at c.requires) room)

@@ -15,7 +15,7 @@ pub returns-clause-place : goal.returns-clause-place
 returns-clause-place g c =
     rw (← c.self.view_is)
     (place_of_entry (λ key. key.items) c.args.key.now c.pop_entry.result _
-      (ap (option_map (entry_by_bytes (λ key. key.items))) c.pop_entry.ensures.value ∙ lookup_entry-by_bytes (λ key. key.items) c.args.key.now c.self.inside.cache.entries))
+    (ap (option_map (entry_by_bytes (λ key. key.items))) c.pop_entry.ensures.value ∙ lookup_entry-by_bytes (λ key. key.items) c.args.key.now c.self.inside.cache.entries))
 
 pub returns-clause-rest : goal.returns-clause-rest
 returns-clause-rest g c =

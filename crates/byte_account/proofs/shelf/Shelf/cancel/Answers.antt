@@ -10,5 +10,5 @@ pub invariant_of-self : goal.invariant_of-self
 invariant_of-self g c =
     rw (c.take_away.ensures.list, c.take_away.ensures.sticky)
     (IsAccounted-without_none (place_weight g.T.Weighs.weigh) c.args.key.now (record { shelf = c.self.inside.list; sticky = c.self.inside.sticky; limit = c.self.inside.limit }) c.self.inside.total c.self.invariant
-      (ap (λ p. weight_under (place_weight g.T.Weighs.weigh) c.args.key.now (found c.args.key.now p)) c.self.view_is
-       ∙ ap (weight_under (place_weight g.T.Weighs.weigh) c.args.key.now) (sym c.in-Some-None.ensures ∙ ap (λ place. Some place) c.in-Some-None.field-0-is)))
+    (ap (λ p. weight_under (place_weight g.T.Weighs.weigh) c.args.key.now (found c.args.key.now p)) c.self.view_is
+    ∙ ap (weight_under (place_weight g.T.Weighs.weigh) c.args.key.now) (sym c.in-Some-None.ensures ∙ ap (λ place. Some place) c.in-Some-None.field-0-is)))

@@ -9,4 +9,4 @@ invariant_of-self g c =
     let weigh = place_weight g.T.Weighs.weigh in
     rw c.evict.ensures.places
     (IsAccounted-evicted weigh c.args.key.now c.args.n (record { shelf = c.self.inside.list; sticky = c.self.inside.sticky; limit = c.self.inside.limit }) c.self.inside.total c.evict.result c.self.invariant
-      (ap (λ shelf. weight_of weigh shelf + c.evict.result) (sym c.evict.ensures.places) ∙ c.evict.ensures.freed))
+    (ap (λ shelf. weight_of weigh shelf + c.evict.result) (sym c.evict.ensures.places) ∙ c.evict.ensures.freed))

@@ -7,7 +7,7 @@ pub invariant_of-self : goal.invariant_of-self
 invariant_of-self g c =
     rw (c.refill.ensures.list, c.refill.ensures.sticky)
     (IsAccounted-hollowed_none (place_weight g.T.Weighs.weigh) c.args.key.now None (record { shelf = c.self.inside.list; sticky = c.self.inside.sticky; limit = c.self.inside.limit }) c.self.inside.total c.self.invariant refl
-      (weight_of_none g.T.Weighs.weigh c.args.key.now _ c.in_err-item.ensures.item))
+    (weight_of_none g.T.Weighs.weigh c.args.key.now _ c.in_err-item.ensures.item))
 
 pub overflow_sub-self : goal.overflow_sub-self
 overflow_sub-self g c =
@@ -18,4 +18,4 @@ pub invariant_of-self-2 : goal.invariant_of-self-2
 invariant_of-self-2 g c =
     rw (c.refill.ensures.list, c.refill.ensures.sticky)
     (IsAccounted-hollowed (place_weight g.T.Weighs.weigh) c.args.key.now None (record { shelf = c.self.inside.list; sticky = c.self.inside.sticky; limit = c.self.inside.limit }) c.self.inside.total c.weight.result c.self.invariant refl
-      (weight_of_item g.T.Weighs.weigh c.args.key.now _ c.in_ok-item.item c.in_ok-item.ensures.item ∙ sym c.weight.ensures))
+    (weight_of_item g.T.Weighs.weigh c.args.key.now _ c.in_ok-item.item c.in_ok-item.ensures.item ∙ sym c.weight.ensures))

@@ -8,7 +8,7 @@ pub invariant_of-self : goal.invariant_of-self
 invariant_of-self g c =
     rw (c.take_away.ensures.list, c.take_away.ensures.sticky)
     (IsAccounted-without_none (place_weight g.T.Weighs.weigh) c.args.key.now (record { shelf = c.self.inside.list; sticky = c.self.inside.sticky; limit = c.self.inside.limit }) c.self.inside.total c.self.invariant
-      (weight_of_none g.T.Weighs.weigh c.args.key.now _ c.in_err-item.ensures.item))
+    (weight_of_none g.T.Weighs.weigh c.args.key.now _ c.in_err-item.ensures.item))
 
 pub overflow_sub-self : goal.overflow_sub-self
 overflow_sub-self g c =
@@ -19,4 +19,4 @@ pub invariant_of-self-2 : goal.invariant_of-self-2
 invariant_of-self-2 g c =
     rw (c.take_away.ensures.list, c.take_away.ensures.sticky)
     (IsAccounted-without (place_weight g.T.Weighs.weigh) c.args.key.now (record { shelf = c.self.inside.list; sticky = c.self.inside.sticky; limit = c.self.inside.limit }) c.self.inside.total c.weight.result c.self.invariant
-      (weight_of_item g.T.Weighs.weigh c.args.key.now _ c.in_ok-item.item c.in_ok-item.ensures.item ∙ sym c.weight.ensures))
+    (weight_of_item g.T.Weighs.weigh c.args.key.now _ c.in_ok-item.item c.in_ok-item.ensures.item ∙ sym c.weight.ensures))

@@ -11,18 +11,18 @@ use Rattle.byte_account.proofs.shelf.Shelf.room.Goals as goal
 fits_answer : (g : _) (c : goal.In-Some g) → Fits c.in-Some.evictions ≡ room_answer (room (place_weight g.T.Weighs.weigh) c.args.self.now c.args.key.now c.args.extra)
 fits_answer g c =
     fits_from_count c.in-Some.evictions _ (sym c.in-Some.is
-      ∙ room-from_need (place_weight g.T.Weighs.weigh) (record { shelf = c.self.inside.list; sticky = c.self.inside.sticky; limit = c.self.inside.limit }) c.args.self.now c.self.inside.total c.args.key.now c.args.extra c.saturating_sub-need.result c.fewest_to_free.result
-        c.self.invariant c.self.view_is
-        (c.saturating_sub-need.ensures ∙ ap (λ n. n - (c.self.inside.limit - c.self.inside.total)) (c.added.ensures ∙ ap added_by (to_z-of_z w64 c.args.extra c.ranges.extra)))
-        c.fewest_to_free.ensures)
+    ∙ room-from_need (place_weight g.T.Weighs.weigh) (record { shelf = c.self.inside.list; sticky = c.self.inside.sticky; limit = c.self.inside.limit }) c.args.self.now c.self.inside.total c.args.key.now c.args.extra c.saturating_sub-need.result c.fewest_to_free.result
+    c.self.invariant c.self.view_is
+    (c.saturating_sub-need.ensures ∙ ap (λ n. n - (c.self.inside.limit - c.self.inside.total)) (c.added.ensures ∙ ap added_by (to_z-of_z w64 c.args.extra c.ranges.extra)))
+    c.fewest_to_free.ensures)
 
 nothing_answer : (g : _) (c : goal.In-None g) → Nothing ≡ room_answer (room (place_weight g.T.Weighs.weigh) c.args.self.now c.args.key.now c.args.extra)
 nothing_answer g c =
     nothing_from_count _ (sym c.in-None.is
-      ∙ room-from_need (place_weight g.T.Weighs.weigh) (record { shelf = c.self.inside.list; sticky = c.self.inside.sticky; limit = c.self.inside.limit }) c.args.self.now c.self.inside.total c.args.key.now c.args.extra c.saturating_sub-need.result c.fewest_to_free.result
-        c.self.invariant c.self.view_is
-        (c.saturating_sub-need.ensures ∙ ap (λ n. n - (c.self.inside.limit - c.self.inside.total)) (c.added.ensures ∙ ap added_by (to_z-of_z w64 c.args.extra c.ranges.extra)))
-        c.fewest_to_free.ensures)
+    ∙ room-from_need (place_weight g.T.Weighs.weigh) (record { shelf = c.self.inside.list; sticky = c.self.inside.sticky; limit = c.self.inside.limit }) c.args.self.now c.self.inside.total c.args.key.now c.args.extra c.saturating_sub-need.result c.fewest_to_free.result
+    c.self.invariant c.self.view_is
+    (c.saturating_sub-need.ensures ∙ ap (λ n. n - (c.self.inside.limit - c.self.inside.total)) (c.added.ensures ∙ ap added_by (to_z-of_z w64 c.args.extra c.ranges.extra)))
+    c.fewest_to_free.ensures)
 
 pub returns-in-Some-clause-room : goal.returns-in-Some-clause-room
 returns-in-Some-clause-room g c = fits_answer g c
