@@ -108,10 +108,10 @@ module _ {X : Type 0} where
       ap (λ b. cond (b || nat_le n (length (others key older))) (place ∷ survivors key n older) (survivors key n older)) apart
       ∙ ap (λ b. cond b (place ∷ survivors key n older) (survivors key n older)) (lt-leb-false (length (others key older)) n few)
 
-  survivors-key : (key : List ℕ) (n : ℕ) (x : X) (older : List (List ℕ × X)) → survivors key n ((key, x) ∷ older) ≡ (key, x) ∷ survivors key n older
+  pub survivors-key : (key : List ℕ) (n : ℕ) (x : X) (older : List (List ℕ × X)) → survivors key n ((key, x) ∷ older) ≡ (key, x) ∷ survivors key n older
   survivors-key key n x older = ap (λ b. cond (b || nat_le n (length (others key older))) ((key, x) ∷ survivors key n older) (survivors key n older)) (own_key key)
 
-  others-key : (key : List ℕ) (x : X) (older : List (List ℕ × X)) → others key ((key, x) ∷ older) ≡ others key older
+  pub others-key : (key : List ℕ) (x : X) (older : List (List ℕ × X)) → others key ((key, x) ∷ older) ≡ others key older
   others-key key x older = ap (λ b. cond (not b) ((key, x) ∷ others key older) (others key older)) (own_key key)
 
   take-none : (n : ℕ) (xs : List (List ℕ × X)) → n ≡ 0 → take n xs ≡ []
@@ -229,7 +229,7 @@ module _ {X : Type 0} where
       subst AreApart (sym (next_is ∙ ap (take k) aside_is)) (AreApart-take k (to_front key now) (AreApart-to_front key now (PopsDownTo-apart weigh key n old now freed left pops apart)))
 
   -- what survives was there
-  IsAbsent-survivors : (key : List ℕ) (n : ℕ) (q : List ℕ) (shelf : List (List ℕ × X)) → IsAbsent q shelf → IsAbsent q (survivors key n shelf)
+  pub IsAbsent-survivors : (key : List ℕ) (n : ℕ) (q : List ℕ) (shelf : List (List ℕ × X)) → IsAbsent q shelf → IsAbsent q (survivors key n shelf)
   IsAbsent-survivors key n q [] absent = refl
   IsAbsent-survivors key n q (place ∷ older) absent =
       let apart : bytes_eq q place.0 ≡ false = IsAbsent-differs q place older absent in

@@ -10,3 +10,5 @@ pub mod AccountingLaws
 pub mod RoomLaws
 pub mod FoundLaws
 pub mod EvictionLaws
+pub mod FilledLaws
+pub mod StoreLaws
