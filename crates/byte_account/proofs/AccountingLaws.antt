@@ -1,7 +1,7 @@
 -- What each change of the places does to the accounting.
-use Rattle.std.proofs.Common.{◌≡◌, ℕ, ◌+◌, ◌-◌, ◌≤◌, Bool, true, false, cond, List, [], ◌∷◌, length, Option, Some, None, IsSome, is_some, bytes_eq, refl, sym, ap, ◌∙◌, subst, arith}
-use Rattle.std.specs.Option.{option_or, option_flatten}
-use Rattle.std.specs.Map.{lookup, set_value}
+use Rattle.std.proofs.Common.{◌≡◌, ℕ, ◌+◌, ◌-◌, ◌≤◌, Bool, true, false, cond, List, [], ◌∷◌, Option, Some, None, is_some, bytes_eq, refl, sym, ap, ◌∙◌, subst, arith}
+use Rattle.std.specs.Option.{option_flatten}
+use Rattle.std.specs.Map.{lookup}
 use Rattle.std.specs.Ordering.{nat_cmp}
 use Rattle.std.specs.Cmp.Lexicographic.{slice_cmp}
 use Rattle.std.specs.FinMap as finite
@@ -11,7 +11,7 @@ use Rattle.arc_core.specs.Room.{evicted, survivors}
 use Rattle.byte_account.specs.Accounting.{IsAccounted}
 use Rattle.byte_account.specs.Weight.{place_weight}
 use Rattle.byte_account.proofs.ShelfLists.{IsDistinct-nil, weight_under, set_value-absent}
-use Rattle.byte_account.proofs.PlacesLaws.{absent_from_shelf, absent_from_sticky, HasEachKeyOnce-touched, HasEachKeyOnce-placed, HasEachKeyOnce-refilled, HasEachKeyOnce-without, HasEachKeyOnce-evicted, total-touched, total-placed, total-refilled, total-without}
+use Rattle.byte_account.proofs.PlacesLaws.{absent_from_shelf, absent_from_sticky, found-shelf, found-sticky, not_on_shelf, placed-new_sticky, placed-new_listed, placed-moved_sticky, placed-moved_listed, HasEachKeyOnce-touched, HasEachKeyOnce-placed, HasEachKeyOnce-refilled, HasEachKeyOnce-without, HasEachKeyOnce-evicted, total-touched, total-placed, total-refilled, total-without}
 
 module _ {X : Type 0} where
   -- where the key has no place, there is none to refill
@@ -118,6 +118,25 @@ module _ {X : Type 0} (weigh : List ℕ → X → ℕ) where
   IsAccounted-laid key old x places total accounted held none room =
       let sum = total-refilled weigh key old x places accounted.once held in
       IsAccounted-more places (refilled key x places) total accounted (HasEachKeyOnce-refilled key x places accounted.once) refl (weigh key x) (omega (arith, sum)) room
+
+module _ {X : Type 0} (weigh : List ℕ → X → ℕ) (key : List ℕ) (x : X) (places new : Places X) (total : ℕ) where
+  -- the new places, told by their parts
+  pub IsAccounted-new_sticky : IsAccounted weigh places total → found key places ≡ None → weigh key x ≡ 0 → new.shelf ≡ places.shelf → new.sticky ≡ finite.insert places.sticky key x → new.limit ≡ places.limit → IsAccounted weigh new total
+  IsAccounted-new_sticky accounted absent none shelf sticky limit =
+      subst (λ p. IsAccounted weigh p total) (sym (placed-new_sticky key x places new absent shelf sticky limit)) (IsAccounted-reserved weigh true key x places total accounted absent none)
+
+  pub IsAccounted-new_listed : IsAccounted weigh places total → found key places ≡ None → weigh key x ≡ 0 → new.shelf ≡ (key, x) ∷ places.shelf → new.sticky ≡ places.sticky → new.limit ≡ places.limit → IsAccounted weigh new total
+  IsAccounted-new_listed accounted absent none shelf sticky limit =
+      subst (λ p. IsAccounted weigh p total) (sym (placed-new_listed key x places new absent shelf sticky limit)) (IsAccounted-reserved weigh false key x places total accounted absent none)
+
+  pub IsAccounted-moved_sticky : IsAccounted weigh places total → lookup (bytes_eq key) places.shelf ≡ Some x → new.shelf ≡ others key places.shelf → new.sticky ≡ finite.insert places.sticky key x → new.limit ≡ places.limit → IsAccounted weigh new total
+  IsAccounted-moved_sticky accounted held shelf sticky limit =
+      subst (λ p. IsAccounted weigh p total) (sym (placed-moved_sticky key x places new shelf sticky limit)) (IsAccounted-restuck weigh true key x places total accounted (found-shelf key places x held))
+
+  pub IsAccounted-moved_listed : IsAccounted weigh places total → finite.get places.sticky key ≡ Some x → new.shelf ≡ (key, x) ∷ places.shelf → new.sticky ≡ finite.remove places.sticky key → new.limit ≡ places.limit → IsAccounted weigh new total
+  IsAccounted-moved_listed accounted held shelf sticky limit =
+      let absent = not_on_shelf places accounted.once key (ap is_some held) in
+      subst (λ p. IsAccounted weigh p total) (sym (placed-moved_listed key x places new absent shelf sticky limit)) (IsAccounted-restuck weigh false key x places total accounted (found-sticky key places absent ∙ held))
 
 -- a place's weight by its item
 pub weight_of_item : {T : Type 0} (weigh : List ℕ → T → ℕ) (key : List ℕ) (place : Option (Option T)) (item : T) → Some item ≡ option_flatten place → weight_under (place_weight weigh) key place ≡ weigh key item

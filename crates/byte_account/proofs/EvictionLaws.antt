@@ -1,6 +1,5 @@
 -- What an eviction frees, and that evicting what room says makes the room.
-use Rattle.std.proofs.Common.{◌≡◌, ℕ, suc, ◌+◌, ◌-◌, ◌<◌, ◌≤◌, Bool, true, false, cond, not, ◌||◌, List, [], ◌∷◌, length, drop, bytes_eq, nat_le, ℤ, pos, negsuc, refl, sym, ap, ◌∙◌, inl, inr, arith}
-use Rattle.std.specs.FinMap.{entries}
+use Rattle.std.proofs.Common.{◌≡◌, ℕ, suc, ◌+◌, ◌-◌, ◌≤◌, Bool, true, false, cond, not, ◌||◌, List, [], ◌∷◌, length, bytes_eq, nat_le, ℤ, pos, negsuc, refl, ap, ◌∙◌, inl, inr, arith}
 use Rattle.std.proofs.lemmas.List.{drop_all}
 use Rattle.std.proofs.lemmas.Bool.{le-leb, leb-true, cases_lt}
 use Rattle.arc_core.specs.Places.{Places, others, weight_of, total_of}

@@ -1,16 +1,15 @@
 -- Each word on places, read at f of what stands in them: so what is said of the items holds of the shelf that holds them.
-use Rattle.std.proofs.Common.{◌≡◌, ℕ, ◌+◌, Bool, true, false, cond, not, ◌&&◌, ◌||◌, T, List, [], ◌∷◌, map, length, Option, Some, None, is_some, option_map, bytes_eq, nat_le, ℤ, refl, sym, ap, ◌∙◌, subst, arith}
+use Rattle.std.proofs.Common.{◌≡◌, ℕ, ◌+◌, Bool, true, false, cond, ◌&&◌, ◌||◌, T, List, [], ◌∷◌, map, length, Option, Some, None, is_some, option_map, bytes_eq, nat_le, ℤ, refl, sym, ap, ◌∙◌, subst, arith}
 use Rattle.std.specs.Option.{option_or, option_map_or}
 use Rattle.std.specs.Ordering.{nat_cmp, is_lt}
 use Rattle.std.specs.Map.{lookup, set_value}
-use Rattle.std.specs.Cmp.Lexicographic.{slice_cmp, nat_list_cmp_total}
+use Rattle.std.specs.Cmp.Lexicographic.{slice_cmp}
 use Rattle.std.specs.FinMap.Entries.{below_all}
 use Rattle.std.specs.FinMap.{FinMap, is_sorted, find}
 use Rattle.std.specs.FinMap as finite
 use Rattle.std.proofs.lemmas.List.{length-map}
 use Rattle.arc_core.specs.Places.{Places, found, others, count_of, to_front, shelved, touched, placed, refilled, without, weight_of, total_of}
 use Rattle.arc_core.specs.Room.{shortest_suffix, survivors, evicted, fits, room}
-use Rattle.byte_account.specs.Weight.{place_weight}
 use Rattle.byte_account.specs.declared.room.Room.TheVariants.{Fits}
 use Rattle.byte_account.specs.ShelfWords.{room_answer}
 use Rattle.byte_account.specs.Filled.{map_listed, map_values, map_places, filled, items_listed, items_of, IsFilled}
@@ -133,7 +132,7 @@ module _ {X Y : Type 0} (f : X → Y) where
   pub refilled-map : (key : List ℕ) (x : X) (places : Places X) → refilled key (f x) (map_places f places) ≡ map_places f (refilled key x places)
   refilled-map key x places =
       let in_sticky : cond (finite.contains_key (map_values f places.sticky) key) (finite.insert (map_values f places.sticky) key (f x)) (map_values f places.sticky) ≡ map_values f (cond (finite.contains_key places.sticky key) (finite.insert places.sticky key x) places.sticky) =
-          ap (λ o. cond (is_some o) (finite.insert (map_values f places.sticky) key (f x)) (map_values f places.sticky)) (get-map_values places.sticky key) ∙ refilled_at key x places.sticky (finite.get places.sticky key) in
+      ap (λ o. cond (is_some o) (finite.insert (map_values f places.sticky) key (f x)) (map_values f places.sticky)) (get-map_values places.sticky key) ∙ refilled_at key x places.sticky (finite.get places.sticky key) in
       λ i. record { shelf = set_value-map key x places.shelf i; sticky = in_sticky i; limit = places.limit }
 
   pub count-map : (places : Places X) → count_of (map_places f places) ≡ count_of places
@@ -156,7 +155,7 @@ module _ {X Y : Type 0} (f : X → Y) where
   pub room-map : (weigh : List ℕ → Y → ℕ) (places : Places X) (key : List ℕ) (extra : ℤ) → room weigh (map_places f places) key extra ≡ option_map (map_listed f) (room (λ k x. weigh k (f x)) places key extra)
   room-map weigh places key extra =
       let same : (suffix : List (List ℕ × X)) → fits places.limit (total_of weigh (map_places f places)) extra (weight_of weigh (map_listed f suffix)) ≡ fits places.limit (total_of (λ k x. weigh k (f x)) places) extra (weight_of (λ k x. weigh k (f x)) suffix) =
-          λ suffix. ap (λ n. fits places.limit n extra (weight_of weigh (map_listed f suffix))) (total-map f weigh places) ∙ ap (fits places.limit (total_of (λ k x. weigh k (f x)) places) extra) (weight-map f weigh suffix) in
+      λ suffix. ap (λ n. fits places.limit n extra (weight_of weigh (map_listed f suffix))) (total-map f weigh places) ∙ ap (fits places.limit (total_of (λ k x. weigh k (f x)) places) extra) (weight-map f weigh suffix) in
       ap (shortest_suffix (λ suffix. fits places.limit (total_of weigh (map_places f places)) extra (weight_of weigh suffix))) (others-map f key places.shelf)
       ∙ suffix_map (λ place. (place.0, f place.1)) (λ suffix. fits places.limit (total_of weigh (map_places f places)) extra (weight_of weigh suffix)) (others key places.shelf)
       ∙ (λ i. option_map (map_listed f) (shortest_suffix (λ suffix. same suffix i) (others key places.shelf)))
@@ -178,8 +177,8 @@ module _ {T : Type 0} where
   pub items_of-filled : (places : Places T) → items_of (filled places) ≡ places
   items_of-filled places =
       let in_sticky : finite.from_sorted (items_listed (finite.entries (map_values (λ item. Some item) places.sticky))) ≡ places.sticky =
-          ap (λ es. finite.from_sorted (items_listed es)) (entries-map_values (λ item. Some item) places.sticky) ∙ ap finite.from_sorted (listed-filled (finite.entries places.sticky))
-          ∙ finite.same_entries_map _ places.sticky (finite.entries-from_sorted (slice_cmp nat_cmp) (finite.entries places.sticky) (finite.entries_sorted places.sticky)) in
+      ap (λ es. finite.from_sorted (items_listed es)) (entries-map_values (λ item. Some item) places.sticky) ∙ ap finite.from_sorted (listed-filled (finite.entries places.sticky))
+      ∙ finite.same_entries_map _ places.sticky (finite.entries-from_sorted (slice_cmp nat_cmp) (finite.entries places.sticky) (finite.entries_sorted places.sticky)) in
       λ i. record { shelf = listed-filled places.shelf i; sticky = in_sticky i; limit = places.limit }
 
   pub IsFilled-filled : (places : Places T) → IsFilled (filled places)

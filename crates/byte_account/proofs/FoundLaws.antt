@@ -1,15 +1,15 @@
 -- What is found under a key after each change of the places.
-use Rattle.std.proofs.Common.{◌≡◌, ℕ, Bool, true, false, cond, ◌||◌, List, [], ◌∷◌, length, nat_le, Option, Some, None, IsSome, is_some, bytes_eq, refl, sym, ap, ◌∙◌, subst}
+use Rattle.std.proofs.Common.{◌≡◌, ℕ, Bool, true, false, cond, ◌||◌, List, [], ◌∷◌, length, nat_le, Option, Some, None, is_some, bytes_eq, refl, sym, ap, ◌∙◌}
 use Rattle.std.specs.Option.{option_or, option_map_or, option_flatten}
 use Rattle.std.specs.Map.{lookup, set_value}
 use Rattle.std.specs.Ordering.{nat_cmp}
 use Rattle.std.specs.Cmp.Lexicographic.{slice_cmp}
 use Rattle.std.specs.FinMap.{FinMap}
 use Rattle.std.specs.FinMap as finite
-use Rattle.arc_core.specs.Places.{Places, found, others, shelved, touched, placed, refilled, without}
+use Rattle.arc_core.specs.Places.{Places, found, others, touched, placed, refilled, without}
 use Rattle.arc_core.specs.Room.{survivors, evicted}
 use Rattle.byte_account.specs.ShelfWords.{on_side, restuck}
-use Rattle.byte_account.proofs.ShelfLists.{IsAbsent, own_key, same_key, lookup-others, lookup-others_apart, lookup-to_front, lookup-set_value, lookup-set_value_apart, lookup-shelved, lookup-shelved_apart, set_value-absent}
+use Rattle.byte_account.proofs.ShelfLists.{own_key, lookup-others, lookup-others_apart, lookup-to_front, lookup-set_value, lookup-shelved, lookup-shelved_apart, set_value-absent}
 use Rattle.byte_account.proofs.StickyMaps.{get-insert, get-remove}
 
 module _ {X : Type 0} (key : List ℕ) where

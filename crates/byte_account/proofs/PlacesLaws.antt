@@ -1,10 +1,10 @@
 -- The laws of places: what stands under a key, that each key has one place at most, and the total, after each change.
-use Rattle.std.proofs.Common.{◌≡◌, ℕ, ◌+◌, ◌≤◌, Bool, true, false, cond, List, [], ◌∷◌, length, Option, Some, None, IsSome, is_some, bytes_eq, refl, sym, ap, ◌∙◌, subst, arith}
+use Rattle.std.proofs.Common.{◌≡◌, ℕ, ◌+◌, Bool, true, false, cond, List, ◌∷◌, Option, Some, None, IsSome, is_some, bytes_eq, refl, sym, ap, ◌∙◌, subst, arith}
 use Rattle.std.specs.Option.{option_or}
 use Rattle.std.specs.Map.{lookup, set_value}
 use Rattle.std.specs.FinMap as finite
 use Rattle.arc_core.specs.Places.{Places, HasEachKeyOnce, found, others, shelved, touched, placed, refilled, without, weight_of, total_of}
-use Rattle.byte_account.proofs.ShelfLists.{IsAbsent, same_key, own_key, others-absent, lookup-others, lookup-others_apart, AreApart-others, AreApart-to_front, AreApart-set_value, AreApart-shelved, lookup-to_front, lookup-set_value, lookup-set_value_apart, is_some-set_value, lookup-shelved_apart, shelved-new, set_value-absent, weight_under, weight-others, weight-to_front, weight-set_value, weight-shelved}
+use Rattle.byte_account.proofs.ShelfLists.{IsAbsent, same_key, others-absent, lookup-others, lookup-others_apart, AreApart-others, AreApart-to_front, AreApart-set_value, AreApart-shelved, lookup-to_front, is_some-set_value, lookup-shelved_apart, shelved-new, set_value-absent, weight_under, weight-others, weight-to_front, weight-set_value, weight-shelved}
 use Rattle.arc_core.specs.Room.{evicted}
 use Rattle.byte_account.proofs.EvictionLemmas.{AreApart-survivors, is_some-survivors}
 use Rattle.byte_account.proofs.StickyMaps.{get-insert, get-remove}

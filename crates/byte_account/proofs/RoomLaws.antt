@@ -1,6 +1,6 @@
 -- Room: what it is by the bytes that have to be freed, that it is the least, and that evicting it makes the room.
-use Rattle.std.proofs.Common.{◌≡◌, ℕ, suc, ◌+◌, ◌-◌, ◌<◌, ◌≤◌, Bool, true, false, cond, List, [], ◌∷◌, ◌++◌, length, drop, Option, Some, None, option_map, nat_le, ℤ, pos, negsuc, ◌≤ℤ◌, refl, sym, ap, ◌∙◌, subst, inl, inr, arith}
-use Rattle.std.proofs.lemmas.Bool.{le-leb, leb-true, cases_lt}
+use Rattle.std.proofs.Common.{◌≡◌, ℕ, suc, ◌+◌, ◌-◌, ◌<◌, ◌≤◌, Bool, true, false, cond, List, [], ◌∷◌, length, drop, Option, Some, None, option_map, nat_le, ℤ, pos, negsuc, ◌≤ℤ◌, refl, sym, ap, ◌∙◌, subst, inl, inr, arith}
+use Rattle.std.proofs.lemmas.Bool.{le-leb, cases_lt}
 use Rattle.std.proofs.lemmas.Int.{ints}
 use Rattle.std.specs.Option.{option_or, unwrap_or}
 use Rattle.std.proofs.lemmas.List.{append-nil}
@@ -11,7 +11,7 @@ use Rattle.byte_account.specs.declared.room.Room.TheVariants.{Fits, Nothing}
 use Rattle.byte_account.specs.ShelfWords.{room_answer, added_by}
 use Rattle.byte_account.specs.Accounting.{IsAccounted}
 use Rattle.byte_account.proofs.EvictionLemmas.{lt-leb-false}
-use Rattle.byte_account.specs.LeastEviction.{last_of, fits_without, IsLeastEviction}
+use Rattle.byte_account.specs.LeastEviction.{last_of, IsLeastEviction}
 use Rattle.byte_account.proofs.RoomLemmas.{is_enough, shortest_suffix-front}
 
 -- two tests that say the same of their numbers are one

@@ -1,13 +1,12 @@
 -- The shortest suffix of a list of places that weighs enough.
-use Rattle.std.proofs.Common.{◌≡◌, ℕ, suc, ◌+◌, ◌-◌, ◌<◌, ◌≤◌, Bool, true, false, cond, not, List, [], ◌∷◌, ◌++◌, length, filter, Option, Some, None, option_map, bytes_eq, nat_le, refl, sym, ap, ◌∙◌, arith}
+use Rattle.std.proofs.Common.{◌≡◌, ℕ, ◌+◌, ◌<◌, ◌≤◌, Bool, true, false, cond, not, List, [], ◌∷◌, ◌++◌, length, Some, None, option_map, bytes_eq, nat_le, refl, sym, ap, ◌∙◌, arith}
 use Rattle.std.specs.Option.{option_or}
 use Rattle.std.proofs.lemmas.List.{append-nil, append_assoc, length-append}
 use Rattle.std.proofs.lemmas.List.Sums.{sum_by-append}
 use Rattle.std.proofs.lemmas.Bool.{le-leb}
-use Rattle.std.proofs.lemmas.Bool.Decides.{nat_tests}
 use Rattle.arc_core.specs.Places.{others, weight_of}
 use Rattle.arc_core.specs.Room.{shortest_suffix}
-use Rattle.byte_account.proofs.ShelfLists.{others-append, weight-cons, weight-others-le, length-others-le, own_key}
+use Rattle.byte_account.proofs.ShelfLists.{others-append, weight-cons, weight-others-le, length-others-le}
 use Rattle.byte_account.proofs.EvictionLemmas.{lt-leb-false}
 
 -- a suffix that is enough is found behind whatever stands before it

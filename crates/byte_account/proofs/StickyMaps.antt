@@ -1,7 +1,7 @@
 -- A hashed table as the finite map that it is, by the bytes of its keys.
-use Rattle.std.proofs.Common.{◌≡◌, ℕ, ◌+◌, Bool, true, false, cond, List, [], ◌∷◌, map, length, Option, Some, None, IsSome, is_some, option_map, bytes_eq, refl, sym, ap, ◌∙◌, subst, arith}
-use Rattle.std.specs.Ordering.{nat_cmp, eq_by_cmp}
-use Rattle.std.specs.Map.{keys_of, lookup, lookup_entry, set_value, KeepsOthers}
+use Rattle.std.proofs.Common.{◌≡◌, ℕ, ◌+◌, Bool, true, false, cond, List, [], ◌∷◌, map, length, Option, Some, None, IsSome, is_some, bytes_eq, refl, sym, ap, ◌∙◌, subst, arith}
+use Rattle.std.specs.Ordering.{nat_cmp}
+use Rattle.std.specs.Map.{keys_of, lookup, set_value, KeepsOthers}
 use Rattle.std.specs.Cmp.Lexicographic.{slice_cmp, nat_list_cmp_total, nat_list_eq_equiv}
 use Rattle.std.specs.List.{IsDistinct, AllByRecursion}
 use Rattle.std.proofs.lemmas.List.{length-map}
@@ -12,7 +12,7 @@ use Rattle.std.specs.FinMap as finite
 use Rattle.std.proofs.lemmas.Map.Text.{is_eq-slice_cmp}
 use Rattle.byte_account.specs.ByBytes.{by_bytes, entry_by_bytes, map_by_bytes}
 use Rattle.byte_account.proofs.ByBytesLemmas.{has_bytes, lookup-by_bytes, set_value-by_bytes}
-use Rattle.byte_account.proofs.ShelfLists.{AreApart, AreApart-tail, IsAbsent-head, IsDistinct-nil, same_key, own_key, lookup-set_value, lookup-set_value_apart, set_value-absent}
+use Rattle.byte_account.proofs.ShelfLists.{AreApart, AreApart-tail, IsAbsent-head, IsDistinct-nil, same_key, lookup-set_value, lookup-set_value_apart, set_value-absent}
 
 pub key_cmp-IsAntisymmetric : IsAntisymmetric (slice_cmp nat_cmp)
 key_cmp-IsAntisymmetric = slice_cmp-IsAntisymmetric nat_cmp-IsAntisymmetric
@@ -42,6 +42,10 @@ module _ {X : Type 0} where
 
   pub not_found : (x : X) → ¬ (◌≡◌ {A = Option X} None (Some x))
   not_found x e = cc
+
+  -- what was put into one map is put into an equal one
+  pub insert_same : (m n r : FinMap (slice_cmp nat_cmp) X) (q k : List ℕ) (x y : X) → r ≡ finite.insert n k x → k ≡ q → n ≡ m → Some x ≡ Some y → r ≡ finite.insert m q y
+  insert_same m n r q k x y put key map item = put ∙ (let same : x ≡ y = cc in λ i. finite.insert (map i) (key i) (same i))
 
   -- a place by its own key
   pub place_of : (q k : List ℕ) (x y : X) → bytes_eq q k ≡ true → Some x ≡ Some y → ◌≡◌ {A = List ℕ × X} (k, x) (q, y)

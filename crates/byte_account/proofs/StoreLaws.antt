@@ -1,14 +1,14 @@
 -- What the calls of a storing command leave together: a hollow place that is filled, or taken away, or filled anew.
-use Rattle.std.proofs.Common.{◌≡◌, ℕ, ◌+◌, Bool, true, false, cond, not, ◌||◌, List, [], ◌∷◌, length, Option, Some, None, is_some, bytes_eq, nat_le, ℤ, refl, sym, ap, ◌∙◌, arith}
+use Rattle.std.proofs.Common.{◌≡◌, ℕ, Bool, true, false, cond, List, [], ◌∷◌, Option, Some, None, is_some, bytes_eq, ℤ, refl, sym, ap, ◌∙◌, arith}
 use Rattle.std.specs.Ordering.{nat_cmp}
-use Rattle.std.specs.Map.{lookup, set_value}
+use Rattle.std.specs.Map.{set_value}
 use Rattle.std.specs.Cmp.Lexicographic.{slice_cmp}
 use Rattle.std.specs.FinMap.{FinMap}
 use Rattle.std.specs.FinMap as finite
 use Rattle.arc_core.specs.Places.{Places, HasEachKeyOnce, found, others, shelved, placed, refilled, without, weight_of, total_of}
 use Rattle.arc_core.specs.Room.{shortest_suffix, survivors, evicted, fits, room}
 use Rattle.byte_account.specs.ShelfWords.{on_side, cancelled, cancelled_at}
-use Rattle.byte_account.proofs.ShelfLists.{IsAbsent, own_key, same_key, others-absent, lookup-others, shelved-new, shelved-held, set_value-absent, weight_under}
+use Rattle.byte_account.proofs.ShelfLists.{IsAbsent, own_key, others-absent, lookup-others, shelved-new, shelved-held, set_value-absent, weight_under}
 use Rattle.byte_account.proofs.StickyMaps.{same_map, get-insert, get-remove}
 use Rattle.byte_account.proofs.StickySums.{remove-absent}
 use Rattle.byte_account.proofs.EvictionLemmas.{IsAbsent-survivors, others-key, survivors-key}
@@ -41,14 +41,14 @@ module _ {X : Type 0} (key : List ℕ) where
   refilled-placed true h x places absent =
       let on_shelf = set_value-absent (bytes_eq key) (others key places.shelf) x (lookup-others key places.shelf) in
       let in_sticky : cond (finite.contains_key (finite.insert places.sticky key h) key) (finite.insert (finite.insert places.sticky key h) key x) (finite.insert places.sticky key h) ≡ finite.insert places.sticky key x =
-          ap (λ b. cond b (finite.insert (finite.insert places.sticky key h) key x) (finite.insert places.sticky key h)) (insert_has places.sticky h) ∙ insert-twice places.sticky h x in
+      ap (λ b. cond b (finite.insert (finite.insert places.sticky key h) key x) (finite.insert places.sticky key h)) (insert_has places.sticky h) ∙ insert-twice places.sticky h x in
       λ i. record { shelf = on_shelf i; sticky = in_sticky i; limit = places.limit }
   refilled-placed false h x places absent =
       let none = absent_from_shelf key places absent in
       let on_shelf : set_value (bytes_eq key) (shelved key h places.shelf) x ≡ shelved key x places.shelf =
-          ap (λ s. set_value (bytes_eq key) s x) (shelved-new key h places.shelf none) ∙ ap (λ b. cond b ((key, x) ∷ places.shelf) ((key, h) ∷ set_value (bytes_eq key) places.shelf x)) (own_key key) ∙ sym (shelved-new key x places.shelf none) in
+      ap (λ s. set_value (bytes_eq key) s x) (shelved-new key h places.shelf none) ∙ ap (λ b. cond b ((key, x) ∷ places.shelf) ((key, h) ∷ set_value (bytes_eq key) places.shelf x)) (own_key key) ∙ sym (shelved-new key x places.shelf none) in
       let in_sticky : cond (finite.contains_key (finite.remove places.sticky key) key) (finite.insert (finite.remove places.sticky key) key x) (finite.remove places.sticky key) ≡ finite.remove places.sticky key =
-          ap (λ o. cond (is_some o) (finite.insert (finite.remove places.sticky key) key x) (finite.remove places.sticky key)) (removed_none places.sticky) in
+      ap (λ o. cond (is_some o) (finite.insert (finite.remove places.sticky key) key x) (finite.remove places.sticky key)) (removed_none places.sticky) in
       λ i. record { shelf = on_shelf i; sticky = in_sticky i; limit = places.limit }
 
   -- a new place that is taken away again
@@ -111,12 +111,12 @@ module _ {X : Type 0} (key : List ℕ) where
       let absent : IsAbsent key places.shelf = not_on_shelf places once key (ap is_some held) in
       let on_shelf = others-absent key places.shelf absent ∙ sym (set_value-absent (bytes_eq key) places.shelf x absent) in
       let in_sticky : finite.insert places.sticky key x ≡ cond (finite.contains_key places.sticky key) (finite.insert places.sticky key x) places.sticky =
-          sym (ap (λ o. cond (is_some o) (finite.insert places.sticky key x) places.sticky) held) in
+      sym (ap (λ o. cond (is_some o) (finite.insert places.sticky key x) places.sticky) held) in
       λ i. record { shelf = on_shelf i; sticky = in_sticky i; limit = places.limit }
   placed-held false old x places once held =
       let none : finite.get places.sticky key ≡ None = once.on_one_side key (ap is_some held) in
       let in_sticky : finite.remove places.sticky key ≡ cond (finite.contains_key places.sticky key) (finite.insert places.sticky key x) places.sticky =
-          remove-absent places.sticky key none ∙ sym (ap (λ o. cond (is_some o) (finite.insert places.sticky key x) places.sticky) none) in
+      remove-absent places.sticky key none ∙ sym (ap (λ o. cond (is_some o) (finite.insert places.sticky key x) places.sticky) none) in
       λ i. record { shelf = shelved-held key x old places.shelf held i; sticky = in_sticky i; limit = places.limit }
 
 module _ {T : Type 0} (key : List ℕ) where

@@ -1,5 +1,5 @@
 -- Where the key has no entry, there is none to replace.
-use Rattle.std.proofs.Common.{◌≡◌, sym, ◌∙◌}
+use Rattle.std.proofs.Common.{sym}
 use Rattle.byte_account.proofs.ShelfLists.{set_value-absent}
 use Rattle.byte_account.proofs.recency_list.replace_in.Goals as goal
 

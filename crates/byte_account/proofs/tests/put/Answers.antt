@@ -20,6 +20,6 @@ pub fill-requires : goal.fill-requires
 fill-requires g c =
     ap (found c.bytes-name.result.now)
     (c.in_ok-restick.ensures.ok
-     ∙ ap (restuck c.args.sticky c.bytes-name.result.now)
-       (c.in_ok-reserve_new.ensures.ok ∙ ap (λ k. placed (not c.args.sticky) k None c.remove.new.self) (c.in_ok-key.ensures ∙ sym c.bytes-name.ensures.bytes)))
+    ∙ ap (restuck c.args.sticky c.bytes-name.result.now)
+    (c.in_ok-reserve_new.ensures.ok ∙ ap (λ k. placed (not c.args.sticky) k None c.remove.new.self) (c.in_ok-key.ensures ∙ sym c.bytes-name.ensures.bytes)))
     ∙ found-restuck c.bytes-name.result.now c.args.sticky None _ (found-placed c.bytes-name.result.now (not c.args.sticky) None c.remove.new.self)

@@ -1,4 +1,4 @@
-use Rattle.std.proofs.Common.{◌≡◌, ◌+◌, ◌<◌, ap, ◌∙◌, arith}
+use Rattle.std.proofs.Common.{◌≡◌, ap, ◌∙◌, arith}
 use Rattle.arc_core.specs.Places.{weight_of}
 use Rattle.byte_account.specs.Weight.{place_weight}
 use Rattle.byte_account.proofs.ShelfLists.{length-others-le}

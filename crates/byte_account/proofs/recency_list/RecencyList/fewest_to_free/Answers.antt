@@ -1,7 +1,6 @@
-use Rattle.std.proofs.Common.{◌≡◌, ◌+◌, ◌≤◌, Bool, true, false, not, sym, ap, ◌∙◌, bytes_eq, arith, length, refl}
+use Rattle.std.proofs.Common.{◌≡◌, ◌+◌, Bool, true, false, not, sym, ap, ◌∙◌, bytes_eq, arith, length, refl}
 use Rattle.std.proofs.lemmas.List.{length-map}
 use Rattle.std.specs.Iterator.Adapters.{rev_source}
-use Rattle.arc_core.specs.Places.{weight_of}
 use Rattle.byte_account.specs.ByBytes.{by_bytes, entry_by_bytes}
 use Rattle.byte_account.specs.Weight.{place_weight}
 use Rattle.byte_account.proofs.ByBytesLemmas.{by_bytes-push}

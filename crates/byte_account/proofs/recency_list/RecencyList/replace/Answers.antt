@@ -1,5 +1,5 @@
 -- The cache's entry is the list's place.
-use Rattle.std.proofs.Common.{sym, ap, ◌∙◌}
+use Rattle.std.proofs.Common.{ap, ◌∙◌}
 use Rattle.byte_account.specs.ByBytes.{by_bytes}
 use Rattle.byte_account.proofs.ByBytesLemmas.{lookup-by_bytes, set_value-by_bytes}
 use Rattle.byte_account.proofs.recency_list.RecencyList.replace.Goals as goal

@@ -1,4 +1,4 @@
-use Rattle.std.proofs.Common.{◌≡◌, ◌+◌, ◌≤◌, Some, None, refl, ap, subst, sym, ◌∙◌, arith}
+use Rattle.std.proofs.Common.{◌≡◌, ◌+◌, ◌≤◌, Some, None, refl, subst, sym, arith}
 use Rattle.arc_core.specs.Places.{Places, found, total_of}
 use Rattle.byte_account.specs.Weight.{place_weight}
 use Rattle.byte_account.proofs.AccountingLaws.{IsAccounted-laid}

@@ -1,5 +1,4 @@
 use Rattle.std.proofs.Common.{◌∙◌, sym}
-use Rattle.arc_core.specs.Places.{found}
 use Rattle.byte_account.specs.Weight.{place_weight}
 use Rattle.byte_account.proofs.AccountingLaws.{IsAccounted-without, IsAccounted-without_none, weight_under-le, weight_of_item, weight_of_none}
 use Rattle.byte_account.proofs.shelf.Shelf.remove.Goals as goal

@@ -1,4 +1,4 @@
-use Rattle.std.proofs.Common.{◌≡◌, Some, None, ◌∷◌, ap, sym, ◌∙◌}
+use Rattle.std.proofs.Common.{◌∷◌, ap, sym, ◌∙◌}
 use Rattle.std.specs.FinMap as finite
 use Rattle.byte_account.specs.ByBytes.{map_by_bytes}
 use Rattle.byte_account.proofs.ShelfLists.{same_key}

@@ -1,4 +1,3 @@
-use Rattle.std.proofs.Common.{ap, sym, ◌∙◌}
 use Rattle.byte_account.proofs.StickyMaps.{inserted}
 use Rattle.byte_account.proofs.sticky_table.StickyTable.insert.Goals as goal
 

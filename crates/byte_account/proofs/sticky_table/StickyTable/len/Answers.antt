@@ -1,4 +1,4 @@
-use Rattle.std.proofs.Common.{ap, sym, ◌∙◌}
+use Rattle.std.proofs.Common.{sym, ◌∙◌}
 use Rattle.byte_account.proofs.StickyMaps.{len-map_by_bytes}
 use Rattle.byte_account.proofs.sticky_table.StickyTable.len.Goals as goal
 

@@ -1,4 +1,4 @@
-use Rattle.std.proofs.Common.{ap, sym, ◌∙◌}
+use Rattle.std.proofs.Common.{sym, ◌∙◌}
 use Rattle.byte_account.proofs.StickyMaps.{get-map_by_bytes, removed}
 use Rattle.byte_account.proofs.sticky_table.StickyTable.remove.Goals as goal
 
