@@ -1,5 +1,5 @@
 -- The rule on the keys of items (this server's own; memcached allows 250 bytes).
-use Rattle.std.specs.Prelude.{◌≡◌, ◌==◌, ◌&&◌, ◌||◌, not, nat_lt, nat_le, if◌then◌else◌, ℕ, Bool, List, length, position, Option, Some, None, Result, Ok, Err}
+use Rattle.std.specs.Prelude.{◌≡◌, ◌==◌, ◌&&◌, not, nat_lt, if◌then◌else◌, ℕ, Bool, List, length, position, Option, Some, None, Result, Ok, Err}
 use Rattle.std.specs.Option.{option_map}
 use Rattle.arc_core.specs.declared.keys.KeyFault.{KeyFault}
 use Rattle.arc_core.specs.declared.keys.KeyFault.TheVariants.{Empty, TooLong, BadByte}

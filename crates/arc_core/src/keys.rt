@@ -1,5 +1,5 @@
 //! Keys of items: a borrowed one, and one that owns its bytes.
-ghost use Rattle.std.specs.Prelude.{◌≡◌, List, ℕ, IfOk, not, position};
+ghost use Rattle.std.specs.Prelude.{◌≡◌, ◌≤◌, List, ℕ, IfOk, length, not, position};
 ghost use Rattle.arc_core.specs.Key.{IsKey, is_key_byte, key_fault, key_read};
 
 use crate::NoMemory;
@@ -67,6 +67,7 @@ impl<'a> KeyRef<'a> {
     pub fn bytes(&self) -> &'a [u8]
         ensures bytes { result.now ≡ self.now }
         ensures key { IsKey result.now }
+        ensures fits { length result.now ≤ 16000 }
     {
         self.bytes
     }
@@ -113,6 +114,7 @@ impl Key {
     pub fn bytes(&self) -> &[u8]
         ensures bytes { result.now ≡ self.now }
         ensures key { IsKey result.now }
+        ensures fits { length result.now ≤ 16000 }
     {
         &self.bytes
     }

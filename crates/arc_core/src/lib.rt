@@ -2,14 +2,36 @@
 //! the machine in `specs/`.
 #![tactic(auto)]
 
+mod bkeys;
+mod clocks;
 mod collections;
 mod faults;
+mod filters;
+mod items;
 mod keys;
+mod machine;
+mod memory;
+mod outside;
+mod replies;
+mod requests;
 mod seqs;
+mod short_bytes;
 mod values;
+mod word_lists;
 
+pub use bkeys::{Bkey, BkeyRange};
+pub use clocks::ListClock;
 pub use collections::{Action, IndexRange, Side};
 pub use faults::{Failed, NoMemory};
+pub use filters::{BitOp, CompOp, Eflag, EflagChange, Filter, FlagIter, FlagWords};
+pub use items::Expiry;
 pub use keys::{Key, KeyFault, KeyRef};
+pub use machine::Executor;
+pub use memory::{MemorySink, MemorySource, SteadySink, SteadySource};
+pub use outside::{Clock, Heads, Link, Need, Pull, Push, Sink, Source};
+pub use replies::{Reply, ValueRow, Word};
+pub use requests::{Act, Answer, Request, StoreVerb};
 pub use seqs::Seq;
+pub use short_bytes::{ShortBytes, hex_digits};
 pub use values::Value;
+pub use word_lists::{KeyIter, KeyWords, WordIter, first_word};

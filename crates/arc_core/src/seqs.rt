@@ -1,5 +1,5 @@
 //! A sequence that grows at its end.
-ghost use Rattle.std.specs.Prelude.{◌≡◌, List, []};
+ghost use Rattle.std.specs.Prelude.{◌≡◌, List, [], IfOk};
 ghost use Rattle.arc_core.specs.Growth.{PutsLast};
 
 use crate::NoMemory;
@@ -26,6 +26,14 @@ impl<T> Seq<T> {
         Seq {
             items: Vec::new(alloc),
         }
+    }
+
+    /// The empty sequence, with room for so many items. `NoMemory` comes for want of memory alone.
+    pub fn with_capacity(alloc: Global, capacity: usize) -> Result<Seq<T>, NoMemory>
+        ensures { IfOk result (λ seq. seq ≡ []) }
+    {
+        let items = Vec::with_capacity(alloc, capacity)?;
+        Ok(Seq { items })
     }
 
     /// Puts an item last. For want of memory the item is handed back, and nothing has changed.

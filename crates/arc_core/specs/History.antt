@@ -1,0 +1,33 @@
+-- Histories of executed requests, and which of them are legal.
+use Rattle.std.specs.Prelude.{◌≡◌, ◌⊎◌, ℕ, List, [], ◌∷◌}
+use Rattle.arc_core.specs.declared.replies.Reply.{Reply}
+use Rattle.arc_core.specs.declared.replies.Reply.TheVariants as reply
+use Rattle.arc_core.specs.declared.replies.Word.TheVariants as word
+use Rattle.arc_core.specs.PlainRequest.{PlainAct, PlainRequest, store, get}
+use Rattle.arc_core.specs.CacheState.{CacheState}
+use Rattle.arc_core.specs.Step.{step}
+
+-- One executed request: by which seat and session, at which second, and with which reply.
+pub record Entry : Type 0 where
+  pub seat : ℕ
+  pub session : ℕ
+  pub second : ℕ
+  pub request : PlainRequest
+  pub reply : Reply
+
+-- The request may want memory: all but those that are known to need none.
+abbrev pub MayWantMemory : PlainAct → Type 0
+MayWantMemory (store verb key flags exptime value) = Unit {0}
+MayWantMemory (get keys unique) = Unit {0}
+
+-- The reply and the new state are those of the machine's step. Or memory was refused to a request that may want it, and nothing has changed.
+abbrev pub Executes : CacheState → ℕ → PlainRequest → Reply → CacheState → Type 0
+Executes old now request answer new =
+    (step old now request ≡ (new, answer))
+    ⊎ (MayWantMemory request.act × (answer ≡ reply.Word word.NoMemory) × (new ≡ old))
+
+-- The history is legal from the old state, and leads to the new one.
+abbrev pub Replays : CacheState → List Entry → CacheState → Type 0
+Replays old [] new = new ≡ old
+Replays old (entry ∷ entries) new =
+    (middle : CacheState) × Executes old entry.second entry.request entry.reply middle × Replays middle entries new

@@ -1,0 +1,24 @@
+//! The machine as its users see it.
+ghost use Rattle.std.specs.Prelude.{◌^◌, ◌<◌, length};
+ghost use Rattle.arc_core.specs.CacheState.{CacheState};
+ghost use Rattle.arc_core.specs.PlainRequest.{plain};
+ghost use Rattle.arc_core.specs.Grammar.{CanBeSpelled};
+ghost use Rattle.arc_core.specs.History.{Executes};
+ghost use Rattle.arc_core.specs.ReplyText.{reply_text};
+
+use crate::{Reply, Request};
+
+/// What executes requests, one at a time, on one state.
+pub trait Executor {
+    /// The state that it stands for.
+    ghost state: { Self → CacheState };
+
+    /// Executes a request at this second. The request is one that some line and block spell.
+    ///
+    /// The reply and the new state are those of the machine's step. Or the reply is `NoMemory`, where the request may
+    /// want memory, and the state is as before.
+    fn execute(&mut self, now: u32, request: &Request<'_>) -> Reply
+        requires { CanBeSpelled (plain request.now) }
+        ensures executed { Executes (state self.old) now (plain request.now) result (state self.new) }
+        ensures text { length (reply_text result) < 2 ^ 64 };
+}

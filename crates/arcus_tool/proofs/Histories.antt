@@ -1,0 +1,69 @@
+-- One history after another, and one unit after others.
+use Rattle.std.proofs.Common.{◌≡◌, ℕ, List, [], ◌∷◌, ◌++◌, Option, Bool, true, refl, sym, ap, ◌∙◌, subst, append_assoc}
+use Rattle.std.specs.List.{AllByRecursion}
+use Rattle.std.proofs.lemmas.List.{append-nil}
+use Rattle.arc_core.specs.declared.outside.Need.{Need}
+use Rattle.arc_core.specs.Outside.{Ticks}
+use Rattle.arc_core.specs.CacheState.{CacheState}
+use Rattle.arc_core.specs.History.{Entry, Executes, Replays}
+use Rattle.arc_core.specs.Framing.{Whole, BeginsWith, IsSpan, line_too_long}
+use Rattle.arc_core.specs.SessionText.{TellsUnit, TellsGroups, Tells, Group, alone, groups}
+use Rattle.arcus_tool.specs.Handling.{Stand, TicksThrough, IsOwn, Executed, NoneTooLong}
+
+pub replays_on : (old middle new : CacheState) (first next : List Entry) → Replays old first middle → Replays middle next new → Replays old (first ++ next) new
+replays_on old middle new [] next is then = subst (λ s. Replays s next new) is then
+replays_on old middle new (entry ∷ first) next is then = (is.0, is.1, replays_on is.0 middle new first next is.2 then)
+
+pub ticks_on : (old middle new : Option (List ℕ)) (first next : List Entry) → TicksThrough old first middle → TicksThrough middle next new → TicksThrough old (first ++ next) new
+ticks_on old middle new [] next is then = subst (λ s. TicksThrough s next new) is then
+ticks_on old middle new (entry ∷ first) next is then = (is.0, is.1, ticks_on is.0 middle new first next is.2 then)
+
+pub own_on : (first next : List Entry) → AllByRecursion IsOwn first → AllByRecursion IsOwn next → AllByRecursion IsOwn (first ++ next)
+own_on [] next is then = then
+own_on (entry ∷ first) next is then = (is.0, own_on first next is.1 then)
+
+-- requests that were executed after others
+pub executed_on : (from middle to : Stand) (first next : List Entry) → Executed from middle first → Executed middle to next → Executed from to (first ++ next)
+executed_on from middle to first next is then = record {
+  legal = replays_on from.state middle.state to.state first next is.legal then.legal;
+  seconds = ticks_on from.coming middle.coming to.coming first next is.seconds then.seconds;
+  own = own_on first next is.own then.own;
+}
+
+-- a unit behind others, whose span is the front of their tail
+pub spans_on : (needs : List ℕ → Need) (bytes : List ℕ) (units : List Whole) (unit : Whole) (span rest : List ℕ) → BeginsWith needs bytes units (span ++ rest) → IsSpan needs span unit → BeginsWith needs bytes (units ++ unit ∷ []) rest
+spans_on needs bytes [] unit span rest is next = (span, rest, is, next, refl)
+spans_on needs bytes (first ∷ units) unit span rest is next = (is.0, is.1, is.2, is.3, spans_on needs is.1 units unit span rest is.4 next)
+
+-- bytes behind the tail
+pub spans_more : (needs : List ℕ → Need) (bytes : List ℕ) (units : List Whole) (tail more : List ℕ) → BeginsWith needs bytes units tail → BeginsWith needs (bytes ++ more) units (tail ++ more)
+spans_more needs bytes [] tail more is = ap (λ b. b ++ more) is
+spans_more needs bytes (unit ∷ units) tail more is = (is.0, is.1 ++ more, ap (λ b. b ++ more) is.2 ∙ append_assoc is.0 is.1 more, is.3, spans_more needs is.1 units tail more is.4)
+
+-- a unit that is not too long behind others that are not
+pub none_on : (units : List Whole) (unit : Whole) → NoneTooLong units → (unit ≡ line_too_long → ⊥) → NoneTooLong (units ++ unit ∷ [])
+none_on [] unit is next = (next, tt)
+none_on (first ∷ units) unit is next = (is.0, none_on units unit is.1 next)
+
+-- what a unit behind others tells
+pub tells_on : (units : List Whole) (unit : Whole) (entries own : List Entry) (text said : List ℕ) → Tells true units entries text → TellsUnit unit own said → Tells true (units ++ unit ∷ []) (entries ++ own) (text ++ said)
+tells_on [] unit entries own text said is next = (
+  own,
+  [],
+  said,
+  [],
+  ap (λ e. e ++ own) is.0 ∙ sym (append-nil own),
+  ap (λ t. t ++ said) is.1 ∙ sym (append-nil said),
+  next,
+  (refl, refl),
+)
+tells_on (first ∷ units) unit entries own text said is next = (
+  is.0,
+  is.1 ++ own,
+  is.2,
+  is.3 ++ said,
+  ap (λ e. e ++ own) is.4 ∙ append_assoc is.0 is.1 own,
+  ap (λ t. t ++ said) is.5 ∙ append_assoc is.2 is.3 said,
+  is.6,
+  tells_on units unit is.1 own is.3 said is.7 next,
+)

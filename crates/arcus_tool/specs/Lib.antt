@@ -1,0 +1,4 @@
+pub mod Output
+pub mod Handling
+pub mod Session
+pub mod Words

@@ -1,0 +1,163 @@
+-- What a whole session is: from the bytes that are taken to the bytes that are sent, with the status that it ends with.
+use Rattle.std.specs.Prelude.{◌≡◌, ◌⊎◌, ℕ, ◌^◌, ◌<◌, ◌≤◌, Bool, true, false, List, [], ◌∷◌, ◌++◌, length, Option, None, IfSome}
+use Rattle.std.specs.List.{AllByRecursion}
+use Rattle.arc_core.specs.Outside.{Rose, first_then, then_sent}
+use Rattle.arc_core.specs.Framing.{Whole, BeginsWith, IsLast}
+use Rattle.arc_core.specs.Grammar.{line_needs}
+use Rattle.arc_core.specs.CacheState.{CacheState}
+use Rattle.arc_core.specs.History.{Entry, Replays}
+use Rattle.arc_core.specs.SessionText.{Tells}
+use Rattle.frame_reader.specs.Progress.{Progress, StandsFor, ready_unit}
+use Rattle.arcus_tool.specs.Output.{IsSentInPart}
+use Rattle.arcus_tool.specs.Handling.{Stand, stand, TicksThrough, IsOwn, GoesOn, EndsTooLong, IsBetweenUnits}
+use Rattle.arcus_tool.specs.declared.status.Status.{Status}
+use Rattle.arcus_tool.specs.declared.status.Status.TheVariants as status
+use Rattle.arcus_tool.specs.declared.sessions.Turn.{Turn}
+use Rattle.arcus_tool.specs.declared.sessions.Turn.TheVariants as turn
+
+-- What the outside of a session tells at one moment: the bytes that are left of the source, the bytes that the sink
+-- was sent, the clock's seconds to come, each where it is told, and the counts of faults and refusals.
+pub record Outside : Type 0 where
+  pub left : Option (List ℕ)
+  pub read_faults : ℕ
+  pub sent : Option (List ℕ)
+  pub write_faults : ℕ
+  pub refusals : ℕ
+  pub coming : Option (List ℕ)
+
+abbrev pub outside : Option (List ℕ) → ℕ → Option (List ℕ) → ℕ → ℕ → Option (List ℕ) → Outside
+outside left read_faults sent write_faults refusals coming =
+    record { left = left; read_faults = read_faults; sent = sent; write_faults = write_faults; refusals = refusals; coming = coming }
+
+-- whether an open group of units at the session's end is answered too
+abbrev pub is_closed : Status → Bool
+is_closed status.ReadFault = false
+is_closed status.LongInput = false
+is_closed other = true
+
+-- All of the text was sent, and no push failed.
+pub record SentWhole (before after : Outside) (text : List ℕ) : Type 0 where
+  pub whole : after.sent ≡ then_sent before.sent text
+  pub no_fault : after.write_faults ≡ before.write_faults
+
+-- The source was read to its end, where it tells that, and no pull failed. Fewer than 2^40 bytes were taken.
+pub record ReadToEnd (before after : Outside) (taken : List ℕ) : Type 0 where
+  pub ended : IfSome after.left (λ bytes. bytes ≡ [])
+  pub no_fault : after.read_faults ≡ before.read_faults
+  pub short : length taken < 2 ^ 40
+
+-- The source ended behind a unit, and all was sent.
+pub record EndsDone (before after : Outside) (taken : List ℕ) (units : List Whole) (tail text : List ℕ) : Type 0 where
+  pub read : ReadToEnd before after taken
+  pub behind_a_unit : tail ≡ []
+  pub no_more : IsLast line_needs units tail
+  pub sent : SentWhole before after text
+
+-- The source ended within a unit, of which so many bytes came, and all was sent.
+pub record EndsCut (rest : ℕ) (before after : Outside) (taken : List ℕ) (units : List Whole) (tail text : List ℕ) : Type 0 where
+  pub read : ReadToEnd before after taken
+  pub within_a_unit : 0 < rest
+  pub came : length tail ≡ rest
+  pub no_more : IsLast line_needs units tail
+  pub sent : SentWhole before after text
+
+-- A pull failed, which the source has counted, and all was sent.
+pub record EndsReadFault (before after : Outside) (taken : List ℕ) (units : List Whole) (tail text : List ℕ) : Type 0 where
+  pub fault : Rose before.read_faults after.read_faults
+  pub short : length taken < 2 ^ 40
+  pub no_more : IsLast line_needs units tail
+  pub sent : SentWhole before after text
+
+-- 2^40 bytes were taken, none more are, and all was sent.
+pub record EndsLong (before after : Outside) (taken : List ℕ) (units : List Whole) (tail text : List ℕ) : Type 0 where
+  pub all_taken : length taken ≡ 2 ^ 40
+  pub no_more : IsLast line_needs units tail
+  pub sent : SentWhole before after text
+
+-- The last unit is a line that is too long, and all was sent.
+pub record EndsAtLongLine (before after : Outside) (taken : List ℕ) (units : List Whole) (text : List ℕ) : Type 0 where
+  pub too_long : EndsTooLong units
+  pub few : length taken ≤ 2 ^ 40
+  pub sent : SentWhole before after text
+
+-- A push failed, which the sink has counted: a front of the text was sent.
+pub record EndsWriteFault (before after : Outside) (text : List ℕ) : Type 0 where
+  pub fault : Rose before.write_faults after.write_faults
+  pub sent : IsSentInPart before.sent after.sent text
+
+-- Memory was refused, before any byte was taken, or to the sink, which has counted it: a front of the text was sent.
+pub record EndsWithoutMemory (before after : Outside) (taken text : List ℕ) : Type 0 where
+  pub refused : (taken ≡ []) ⊎ Rose before.refusals after.refusals
+  pub sent : IsSentInPart before.sent after.sent text
+
+-- How a session ends, by its status.
+abbrev pub Ends : Status → Outside → Outside → List ℕ → List Whole → List ℕ → List ℕ → Type 0
+Ends status.Done before after taken units tail text = EndsDone before after taken units tail text
+Ends (status.CutInput rest) before after taken units tail text = EndsCut rest before after taken units tail text
+Ends status.ReadFault before after taken units tail text = EndsReadFault before after taken units tail text
+Ends status.LongInput before after taken units tail text = EndsLong before after taken units tail text
+Ends status.LineTooLong before after taken units tail text = EndsAtLongLine before after taken units text
+Ends status.WriteFault before after taken units tail text = EndsWriteFault before after text
+Ends status.NoMemory before after taken units tail text = EndsWithoutMemory before after taken text
+-- a session does not look at words
+Ends (status.BadWords place) before after taken units tail text = ⊥
+
+-- THE SESSION. From this state, between these two moments of the outside, a session ran and ended with this status:
+pub record IsSession (opening : CacheState) (before after : Outside) (ended : Status) : Type 0 where
+  -- the bytes that it took from the source
+  pub taken : List ℕ
+  -- the units that it handled, and what was taken behind them
+  pub units : List Whole
+  pub tail : List ℕ
+  -- the requests that it had executed, each with its second and its reply, and the state at the end
+  pub entries : List Entry
+  pub closing : CacheState
+  -- the text of all that was answered
+  pub text : List ℕ
+  -- the bytes were the next ones that the source had left
+  pub took : before.left ≡ first_then taken after.left
+  -- the units are the first ones of these bytes
+  pub spans : BeginsWith line_needs taken units tail
+  -- the requests and replies are those of the units in their order, and the text is theirs
+  pub tells : Tells (is_closed ended) units entries text
+  -- the replies and states are a run of the machine
+  pub legal : Replays opening entries closing
+  -- each request came at the clock's next second
+  pub seconds : TicksThrough before.coming entries after.coming
+  -- each entry is of the one session that there is
+  pub own : AllByRecursion IsOwn entries
+  -- why the session ended, and what was sent of the text
+  pub ends : Ends ended before after taken units tail text
+
+-- where a session begins
+abbrev pub start_of : CacheState → Outside → Stand
+start_of opening before = stand opening before.coming before.sent before.write_faults before.refusals
+
+-- The session ran so far by these bytes: the source is read up to them, and each whole unit of them is handled.
+pub record RanSoFar (opening : CacheState) (before : Outside) (at : Stand) (left : Option (List ℕ)) (read_faults : ℕ) (progress : Progress) (taken : List ℕ) : Type 0 where
+  pub took : before.left ≡ first_then taken left
+  pub no_fault : read_faults ≡ before.read_faults
+  pub goes : GoesOn (start_of opening before) at taken progress []
+
+-- What one pull leaves: the session ran on by so many bytes, or it is over.
+abbrev pub TurnLeaves : CacheState → Outside → Stand → Option (List ℕ) → ℕ → Progress → List ℕ → Turn → Type 0
+TurnLeaves opening before at left read_faults progress taken (turn.More count) =
+    (piece : List ℕ) × (length piece ≡ count) × RanSoFar opening before at left read_faults progress (taken ++ piece)
+TurnLeaves opening before at left read_faults progress taken (turn.Over ended) =
+    IsSession opening before (outside left read_faults at.sent at.faults at.refusals at.coming) ended
+
+-- What one pull keeps: no more bytes came than the buffer has, and the session stands between units.
+abbrev pub TurnKeeps : ℕ → Progress → List ℕ → Turn → Type 0
+TurnKeeps most progress waiting (turn.More count) = (0 < count) × (count ≤ most) × IsBetweenUnits progress waiting
+TurnKeeps most progress waiting (turn.Over ended) = Unit {0}
+
+-- the status at the end of the source, by the bytes that came of an unfinished unit
+abbrev pub status_at_end : List ℕ → Status
+status_at_end [] = status.Done
+status_at_end (byte ∷ bytes) = status.CutInput (length (byte ∷ bytes))
+
+-- The reader and the outbox have taken no byte.
+pub record IsFresh (progress : Progress) (waiting : List ℕ) : Type 0 where
+  pub stands : StandsFor line_needs progress []
+  pub waits : ready_unit progress ≡ None
+  pub empty : waiting ≡ []

@@ -1,0 +1,111 @@
+//! The real outside: standard input, standard output and the wall clock.
+//!
+//! These count their faults, and tell nothing of what they hold: that the bytes really come and go is not proved.
+ghost use Rattle.std.specs.Prelude.{None};
+
+use arc_core::{Clock, Pull, Push, Sink, Source};
+use std::io::{ErrorKind, Read, Write};
+use std::rt::Clock as SystemClock;
+
+/// A source over a reader, as standard input.
+#[derive(Drop)]
+pub struct StdSource<R> {
+    reader: R,
+    faults: u64,
+}
+
+impl<R: Read> StdSource<R> {
+    /// A source that has not failed yet. (No clause: it tells nothing of the reader.)
+    pub fn new(reader: R) -> StdSource<R> {
+        StdSource { reader, faults: 0 }
+    }
+}
+
+impl<R: Read> Source for StdSource<R> {
+    ghost left = { λ _. None };
+
+    ghost read_faults = { λ source. source.faults };
+
+    fn pull(&mut self, buf: &mut [u8]) -> Pull {
+        for _ in 0..u64::MAX {
+            match self.reader.read(buf) {
+                Ok(0) => return Pull::End,
+                Ok(count) => return Pull::Got(count),
+                // A signal came: the call is made again.
+                Err(error) if error.kind() == ErrorKind::Interrupted => {}
+                Err(_) => break,
+            }
+        }
+        self.faults = self.faults.saturating_add(1);
+        Pull::Failed
+    }
+}
+
+/// A sink over a writer, as standard output.
+#[derive(Drop)]
+pub struct StdSink<W> {
+    writer: W,
+    faults: u64,
+}
+
+impl<W: Write> StdSink<W> {
+    /// A sink that has not failed yet. (No clause: it tells nothing of the writer.)
+    pub fn new(writer: W) -> StdSink<W> {
+        StdSink { writer, faults: 0 }
+    }
+}
+
+impl<W: Write> Sink for StdSink<W> {
+    ghost sent = { λ _. None };
+
+    ghost write_faults = { λ sink. sink.faults };
+
+    ghost refusals = { λ _. 0 };
+
+    fn push(&mut self, piece: &[u8]) -> Push {
+        for _ in 0..u64::MAX {
+            match self.writer.write(piece) {
+                // A writer that takes nothing of a piece will not take more.
+                Ok(0) => break,
+                Ok(count) => return Push::Took(count),
+                // A signal came: the call is made again.
+                Err(error) if error.kind() == ErrorKind::Interrupted => {}
+                Err(_) => break,
+            }
+        }
+        self.faults = self.faults.saturating_add(1);
+        Push::Failed
+    }
+}
+
+/// The wall clock: seconds since 1970, cut to 32 bits. Where it cannot be read it answers its last answer, at first 0.
+#[derive(Drop)]
+pub struct WallClock<R> {
+    system: R,
+    last: u32,
+}
+
+impl<R: SystemClock + Copy> WallClock<R> {
+    /// A clock that was not read yet. (No clause: it tells nothing of the seconds to come.)
+    pub fn new(system: R) -> WallClock<R> {
+        WallClock { system, last: 0 }
+    }
+}
+
+impl<R: SystemClock + Copy> Clock for WallClock<R> {
+    ghost coming = { λ _. None };
+
+    fn second(&mut self) -> u32 {
+        if let Ok(since_1970) = self.system.since_1970() {
+            self.last = (since_1970.as_secs() % (1 << 32)) as u32;
+        }
+        self.last
+    }
+
+    fn twin(&self) -> WallClock<R> {
+        WallClock {
+            system: self.system,
+            last: self.last,
+        }
+    }
+}

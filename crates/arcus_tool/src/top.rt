@@ -1,0 +1,60 @@
+//! The top call: all that the program does.
+ghost use Rattle.std.specs.Prelude.{◌≡◌, map, string_bytes};
+ghost use Rattle.arcus_tool.specs.Session.{outside};
+ghost use Rattle.arcus_tool.specs.Words.{Runs};
+
+use crate::sessions::session;
+use crate::status::Status;
+use arc_core::{Clock, Sink, Source};
+use std::alloc::Global;
+
+/// The limit of the cache where the words name none, in mebibytes.
+const DEFAULT_LIMIT_MIB: u32 = 64;
+
+/// The outside that a job is given.
+#[derive(Drop)]
+pub struct World<S, K, P, C> {
+    /// Where input comes from.
+    pub source: S,
+    /// Where output goes to.
+    pub sink: K,
+    /// Where connections come from; no job takes any yet.
+    pub ports: P,
+    /// What tells the second.
+    pub clock: C,
+}
+
+/// Does what the words say, and tells how it ended. It always returns.
+///
+/// The one job is `session`: one session from the source to the sink, on a cache of 64 MiB. `BadWords(0)` comes exactly
+/// where there is no word or the first is another, and `BadWords(1)` exactly where more words follow; nothing is done
+/// then. The other statuses are those of `session`.
+pub fn run<S: Source, K: Sink, P, C: Clock>(
+    alloc: Global,
+    words: &[String],
+    world: &mut World<S, K, P, C>,
+) -> Status
+    ensures { Runs (map string_bytes words.now)
+        (outside (S.left world.old.source) (S.read_faults world.old.source) (K.sent world.old.sink) (K.write_faults world.old.sink) (K.refusals world.old.sink) (C.coming world.old.clock))
+        (outside (S.left world.new.source) (S.read_faults world.new.source) (K.sent world.new.sink) (K.write_faults world.new.sink) (K.refusals world.new.sink) (C.coming world.new.clock))
+        result }
+{
+    match words {
+        [] => Status::BadWords(0),
+        [command, more @ ..] => {
+            if command.as_str() != "session" {
+                return Status::BadWords(0);
+            }
+            if !more.is_empty() {
+                return Status::BadWords(1);
+            }
+            let World {
+                source,
+                sink,
+                ports: _,
+                clock,
+            } = world;
+            session(alloc, DEFAULT_LIMIT_MIB, source, sink, clock)
+        }
+    }
+}

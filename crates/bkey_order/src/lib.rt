@@ -1,0 +1,12 @@
+//! Bkeys and element flags as words of the protocol: read from a word, and printed.
+//!
+//! Nothing here takes memory.
+#![tactic(auto)]
+
+mod faults;
+mod print;
+mod read;
+
+pub use faults::BkeyFault;
+pub use print::{print_bkey, print_eflag};
+pub use read::{read_bkey, read_eflag};

@@ -1,0 +1,62 @@
+-- How long the text of a reply may get.
+use Rattle.std.proofs.Common.{◌≡◌, ◌+◌, ◌*◌, ◌^◌, ◌/◌, ◌%◌, ◌≤◌, ◌<◌, ℕ, zero, suc, List, [], ◌∷◌, ◌++◌, length, Option, Some, None, Bool, true, false, cond, refl, arith, length-append}
+use Rattle.std.specs.Prelude.{◌==◌, codes, decimal}
+use Rattle.std.specs.Fmt.{digits, digits_onto, digit_glyph}
+use Rattle.std.specs.Option.{option_map_or}
+use Rattle.std.specs.List.{flat_map}
+use Rattle.std.proofs.lemmas.List.Elements.{All-head, All-tail}
+use Rattle.arc_core.specs.Words.{AreKeys}
+use Rattle.arc_core.specs.Key.{IsKey}
+use Rattle.arc_core.specs.Item.{Item, key_value, IsItem}
+use Rattle.arc_core.specs.declared.replies.ValueRow.{ValueRow}
+use Rattle.arc_core.specs.declared.replies.Reply.TheVariants as reply
+use Rattle.arc_core.specs.Places.{Places, found}
+use Rattle.arc_core.specs.Step.{row_of_item, rows_of}
+use Rattle.arc_core.specs.ReplyText.{row_text, reply_text, line_end}
+use Rattle.cache_engine.proofs.Puts.{key_len}
+
+either_long : (b : Bool) (xs ys : List ℕ) (n : ℕ) → length xs ≤ n → length ys ≤ n → length (cond b xs ys) ≤ n
+either_long true xs ys n p q = p
+either_long false xs ys n p q = q
+
+digits_long : (k base : ℕ) (upper : Bool) (n : ℕ) (more : List ℕ) → length (digits_onto k base upper n more) ≤ k + length more
+digits_long zero base upper n more = omega arith
+digits_long (suc k) base upper n more =
+    let digit = digit_glyph upper (n % base) in
+    either_long (n / base == 0) (digit ∷ more) (digits_onto k base upper (n / base) (digit ∷ more)) (suc k + length more)
+    (omega arith)
+    (omega (arith, digits_long k base upper (n / base) (digit ∷ more)))
+
+-- a number has at most 64 digits
+decimal_long : (n : ℕ) → length (decimal n) ≤ 64
+unfolding digits
+decimal_long n = digits_long 64 10 false n []
+
+unique_long : (o : Option ℕ) → length (option_map_or (λ unique. codes " " ++ decimal unique) o []) ≤ 65
+unique_long None = omega arith
+unique_long (Some n) = omega (arith, decimal_long n)
+
+-- the text of a row has at most 2 MiB
+row_long : (row : ValueRow) → length row.key ≤ 16000 → length row.value ≤ 1048576 → length (row_text row) ≤ 2097152
+row_long row key value =
+    let flags = decimal_long row.flags in
+    let number = decimal_long (length row.value) in
+    let unique = unique_long row.unique in
+    simp length-append (omega arith)
+
+item_long : (unique : Bool) (key : List ℕ) (item : Item) → IsKey key → IsItem item → length (row_text (row_of_item unique key item)) ≤ 2097152
+item_long unique key (key_value flags expiry number value) is ok = row_long (row_of_item unique key (key_value flags expiry number value)) (key_len key is) ok
+
+rows_long : (unique : Bool) (places : Places Item) (keys : List (List ℕ)) → ((key : List ℕ) (item : Item) → found key places ≡ Some item → IsItem item) → AreKeys keys → length (flat_map row_text (rows_of unique places keys)) ≤ 2097152 * length keys
+rows_long unique places [] ok are = omega arith
+rows_long unique places (key ∷ keys) ok are =
+    let more = rows_long unique places keys ok (All-tail IsKey key keys are) in
+    elim (found key places) as (λ o. found key places ≡ o → length (flat_map row_text (option_map_or (λ item. row_of_item unique key item ∷ rows_of unique places keys) o (rows_of unique places keys))) ≤ 2097152 * length (key ∷ keys)) [
+      | None ↦ λ is. omega (arith, more)
+      | Some item ↦ λ is. omega (arith, more, item_long unique key item (All-head IsKey key keys are) (ok key item is), length-append (row_text (row_of_item unique key item)) (flat_map row_text (rows_of unique places keys)))
+    ] refl
+
+-- the text of a retrieval's answer is below 2^64 bytes
+pub retrieval_short : (unique : Bool) (places : Places Item) (keys : List (List ℕ)) → ((key : List ℕ) (item : Item) → found key places ≡ Some item → IsItem item) → AreKeys keys → length keys < 2 ^ 32 → length (reply_text (reply.Values (rows_of unique places keys))) < 2 ^ 64
+retrieval_short unique places keys ok are few =
+    omega (arith, rows_long unique places keys ok are, length-append (flat_map row_text (rows_of unique places keys) ++ codes "END") line_end, length-append (flat_map row_text (rows_of unique places keys)) (codes "END"))

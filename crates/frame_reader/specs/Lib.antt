@@ -1,0 +1,4 @@
+pub mod Progress
+pub mod Buffers
+pub mod Units
+pub mod Cutting

@@ -1,0 +1,2 @@
+pub mod PlainHead
+pub mod Reading

@@ -1,0 +1,3 @@
+pub mod InsertPlan
+pub mod ListContents
+pub mod Span

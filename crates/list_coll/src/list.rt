@@ -1,0 +1,116 @@
+//! The elements of a list.
+ghost use Rattle.std.specs.Prelude.{◌≡◌, ◌+◌, ◌-◌, ◌≤◌, ◌<◌, ℕ, [], length, insert, slice_get, OnOk, OnErr, IfSome};
+ghost use Rattle.std.specs.List.{remove_range};
+ghost use Rattle.list_coll.specs.InsertPlan.{IsListAction, insert_plan};
+ghost use Rattle.list_coll.specs.Span.{span};
+
+use crate::plan::{ListPlan, plan_of};
+use crate::span::{Part, part_of};
+use arc_core::{Action, IndexRange, NoMemory, Value};
+use std::alloc::Global;
+use std::collections::VecDeque;
+use std::marker::Model;
+
+// The most elements of a list, so that its count and its places are numbers of 32 bits.
+const MAX_ELEMENTS: usize = 4_294_967_295;
+
+/// The elements of a list.
+///
+/// Contracts see it as the list of the elements' values, from the head on, and `spare`, the number of further elements
+/// for which it has room. It has room for at most 2^32 - 1 elements in all, far above what a list may be made to hold.
+#[derive(Drop)]
+pub struct ListColl {
+    elements: VecDeque<Value>,
+}
+
+impl Model for ListColl {
+    ghost use Rattle.std.specs.Prelude.{◌-◌, ◌≤◌, length};
+    ghost use Rattle.std.specs.VecDeque.{deque_capacity};
+    ghost use Rattle.list_coll.specs.ListContents.{ListContents, most_elements, room_of};
+
+    ghost Value = { ListContents };
+
+    ghost view = { λ list. record { values = list.elements.items; spare = room_of (length list.elements.items) (deque_capacity list.elements - length list.elements.items) } };
+
+    ghost invariant = { λ list. length list.elements.items ≤ most_elements };
+}
+
+impl ListColl {
+    /// The empty list. Takes no memory.
+    pub fn new(alloc: Global) -> ListColl
+        ensures { result.values ≡ [] }
+    {
+        ListColl {
+            elements: VecDeque::new(alloc),
+        }
+    }
+
+    /// The number of elements.
+    pub fn count(&self) -> u32
+        ensures { result ≡ length self.now.values }
+    {
+        self.elements.len() as u32
+    }
+
+    /// Makes room for one more element.
+    ///
+    /// `NoMemory` comes for want of memory, and in a list of 2^32 - 1 elements. It never comes where there is room.
+    pub fn reserve(&mut self) -> Result<(), NoMemory>
+        ensures values { self.new.values ≡ self.old.values }
+        ensures room { OnOk result (1 ≤ self.new.spare) }
+        ensures spare { self.old.spare ≤ self.new.spare }
+        ensures refused { OnErr result (self.old.spare ≡ 0) }
+    {
+        if self.elements.len() == MAX_ELEMENTS {
+            return Err(NoMemory);
+        }
+        self.elements.reserve(1)?;
+        Ok(())
+    }
+
+    /// What an insert at an index does, where the list is full at `maxcount` elements and its action is `action`.
+    pub fn plan(&self, index: i32, maxcount: u32, action: Action) -> ListPlan
+        requires action { IsListAction action }
+        requires maxcount { 1 ≤ maxcount }
+        requires within { length self.now.values ≤ maxcount }
+        ensures { result ≡ insert_plan index (length self.now.values) maxcount action }
+    {
+        plan_of(index, self.count(), maxcount, action)
+    }
+
+    /// Puts an element at a place; those from that place on move towards the tail. Takes no memory.
+    pub fn insert_spare(&mut self, place: u32, value: Value)
+        requires spare { 1 ≤ self.old.spare }
+        requires place { place ≤ length self.old.values }
+        ensures values { self.new.values ≡ insert self.old.values place value }
+        ensures spare { self.old.spare ≤ self.new.spare + 1 }
+    {
+        self.elements.insert(place as usize, value).unwrap();
+    }
+
+    /// The part that a range of indices names, cut to the list's places; none where no place is left.
+    pub fn span(&self, range: IndexRange) -> Option<Part>
+        ensures part { result ≡ span range (length self.now.values) }
+        ensures within { IfSome result (λ part. (part.low ≤ part.high) × (part.high < length self.now.values)) }
+    {
+        part_of(range, self.count())
+    }
+
+    /// The element at a place.
+    pub fn at(&self, place: u32) -> &Value
+        requires { place < length self.now.values }
+        ensures { slice_get self.now.values place ≡ Some result.now }
+    {
+        &self.elements[place as usize]
+    }
+
+    /// Removes the elements from place `low` to place `high`, both of them too, in one step.
+    pub fn remove(&mut self, low: u32, high: u32)
+        requires order { low ≤ high }
+        requires within { high < length self.old.values }
+        ensures values { self.new.values ≡ remove_range self.old.values low (high + 1) }
+        ensures spare { self.new.spare ≡ self.old.spare + (high + 1 - low) }
+    {
+        let _ = self.elements.drain(low as usize..high as usize + 1);
+    }
+}

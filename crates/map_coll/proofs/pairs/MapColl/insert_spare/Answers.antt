@@ -1,0 +1,29 @@
+use Rattle.std.proofs.Common.{arith, ◌≡◌, ◌∙◌, All, length, ℕ, List, [], ◌∷◌, ◌++◌, None, ap, sym, subst}
+use Rattle.std.specs.Str.{bytes_eq}
+use Rattle.std.proofs.lemmas.List.{length-append}
+use Rattle.std.proofs.lemmas.List.Elements.{All-push}
+use Rattle.arc_core.specs.Key.{IsKey}
+use Rattle.map_coll.specs.MapContents.{MapContents, place_of}
+use Rattle.map_coll.proofs.MappedLists.{absent_seen}
+use Rattle.map_coll.proofs.TableEntries.{fields_seen, inserted_last, pair_pushed}
+use Rattle.map_coll.proofs.pairs.MapColl.insert_spare.Goals as goal
+
+inserted : (c : goal.Joined-unwrap) → c.insert.new.self.entries ≡ c.self.inside.table.entries ++ (c.into_bytes.result, c.args.value) ∷ []
+inserted c =
+    let pairs = ap (λ (s : MapContents). s.pairs) c.self.view_is in
+    let fields = fields_seen (λ v. v.items) c.self.inside.table.entries _ pairs in
+    let P : List ℕ → Type 0 = λ field. place_of field c.args.self.now.pairs ≡ None in
+    let absent = absent_seen (λ v. v.items) _ _ fields (bytes_eq c.into_bytes.result.items) (subst P (sym c.into_bytes.ensures.bytes) c.requires.absent) in
+    inserted_last (λ a b. bytes_eq a.items b.items) c.self.inside.table _ _ _ _ _ c.unwrap.ensures c.insert.ensures.entries absent
+
+pub invariant_of-self : goal.invariant_of-self
+invariant_of-self c =
+    let room = ap (λ (s : MapContents). s.spare) c.self.view_is in
+    let longer = ap length (inserted c) ∙ length-append c.self.inside.table.entries _ in
+    let fields = All-push (λ e. IsKey e.0.items) c.self.inside.table.entries (c.into_bytes.result, c.args.value) c.self.invariant.1 c.into_bytes.ensures.key in
+    (grind (arith, room, longer, c.requires.spare), subst (All (λ e. IsKey e.0.items)) (sym (inserted c)) fields)
+
+pub returns-clause-pairs : goal.returns-clause-pairs
+returns-clause-pairs c =
+    let pairs = ap (λ (s : MapContents). s.pairs) c.self.view_is in
+    pair_pushed (λ v. v.items) _ _ pairs _ c.into_bytes.result c.args.value c.args.field c.into_bytes.ensures.bytes (inserted c)

@@ -1,0 +1,16 @@
+-- What contracts see of a set.
+use Rattle.std.specs.Prelude.{◌≢◌, ℕ, List, Option, position, AllPairs}
+use Rattle.std.specs.Str.{bytes_eq}
+
+-- The values in the order of insertion, and for how many further values there is room.
+pub record SetContents : Type 0 where
+  pub values : List (List ℕ)
+  pub spare : ℕ
+
+-- the place of a value, counted from 0 in the order of insertion
+abbrev pub place_of : List ℕ → List (List ℕ) → Option ℕ
+place_of value values = position (bytes_eq value) values
+
+-- no value is there twice
+abbrev pub AreDistinct : List (List ℕ) → Type 0
+AreDistinct values = AllPairs (λ x y. x ≢ y) values
