@@ -6,11 +6,13 @@ use Rattle.std.specs.Ordering.{nat_cmp}
 use Rattle.std.specs.Cmp.Lexicographic.{slice_cmp}
 use Rattle.std.specs.FinMap.{FinMap}
 use Rattle.std.specs.FinMap as finite
-use Rattle.arc_core.specs.Places.{Places, found, others, touched, placed, refilled, without}
+use Rattle.arc_core.specs.Places.{Places, found, others, to_front, touched, placed, refilled, without}
 use Rattle.arc_core.specs.Room.{survivors, evicted}
 use Rattle.byte_account.specs.ShelfWords.{on_side, restuck}
-use Rattle.byte_account.proofs.ShelfLists.{own_key, lookup-others, lookup-others_apart, lookup-to_front, lookup-set_value, lookup-shelved, lookup-shelved_apart, set_value-absent}
+use Rattle.byte_account.proofs.ShelfLists.{own_key, others-absent, lookup-others, lookup-others_apart, lookup-to_front, lookup-set_value, lookup-shelved, lookup-shelved_apart, set_value-absent}
 use Rattle.byte_account.proofs.StickyMaps.{get-insert, get-remove}
+use Rattle.byte_account.proofs.StickySums.{remove-absent}
+use Rattle.byte_account.proofs.PlacesLaws.{absent_from_shelf, absent_from_sticky}
 
 module _ {X : Type 0} (key : List ℕ) where
   get-insert_own : (m : FinMap (slice_cmp nat_cmp) X) (x : X) → finite.get (finite.insert m key x) key ≡ Some x
@@ -81,6 +83,18 @@ module _ {X : Type 0} (key : List ℕ) where
   found-without_apart places q apart =
       ap (λ o. option_or o (finite.get (finite.remove places.sticky key) q)) (lookup-others_apart key q places.shelf apart)
       ∙ ap (option_or (lookup (bytes_eq q) places.shelf)) (get-remove places.sticky key q ∙ ap (λ b. cond b None (finite.get places.sticky q)) apart)
+
+-- nothing changes under a key that has no place
+pub touched-absent : {X : Type 0} (key : List ℕ) (places : Places X) → found key places ≡ None → touched key places ≡ places
+touched-absent key places absent =
+    let same : to_front key places.shelf ≡ places.shelf = ap (λ o. option_map_or (λ x. (key, x) ∷ others key places.shelf) o places.shelf) (absent_from_shelf key places absent) in
+    λ i. record { shelf = same i; sticky = places.sticky; limit = places.limit }
+
+pub without-absent : {X : Type 0} (key : List ℕ) (places : Places X) → found key places ≡ None → without key places ≡ places
+without-absent key places absent =
+    let on_shelf = others-absent key places.shelf (absent_from_shelf key places absent) in
+    let in_sticky = remove-absent places.sticky key (absent_from_sticky key places absent) in
+    λ i. record { shelf = on_shelf i; sticky = in_sticky i; limit = places.limit }
 
 -- where a key has an item, it has a place with that item
 pub found_item : {T : Type 0} (place : Option (Option T)) (item : T) → Some item ≡ option_flatten place → place ≡ Some (Some item)

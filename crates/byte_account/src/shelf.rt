@@ -86,14 +86,15 @@ impl<T: Weighs> Shelf<T> {
         self.place(key)?.as_ref()
     }
 
-    /// Marks the key as used: where it has a place that is not sticky, that moves to the front.
+    /// Marks the key as used: where it has a place that is not sticky, that moves to the front. Else nothing changes.
     pub fn touch(&mut self, key: &[u8])
-        ensures { self.new ≡ touched key.now self.old }
+        ensures places { self.new ≡ touched key.now self.old }
+        ensures absent { found key.now self.old ≡ None → self.new ≡ self.old }
     {
         self.list.promote(key);
     }
 
-    /// Makes a hollow place for a key that has none: a sticky one, or one in front of the list.
+    /// Makes a hollow place for a key that has none, which is the condition: a sticky one, or one in front of the list.
     ///
     /// `NoMemory` comes for want of memory alone, and then nothing has changed.
     pub fn reserve_new(&mut self, key: Key, sticky: bool) -> Result<(), NoMemory>
@@ -139,7 +140,8 @@ impl<T: Weighs> Shelf<T> {
         }
     }
 
-    /// Evicts the `n` least recently used places but the key's. The others keep their order.
+    /// Evicts the `n` least recently used places but the key's, of which there have to be so many. The key's place and
+    /// the others keep their order.
     pub fn evict(&mut self, key: &[u8], n: u64)
         requires { n ≤ length (others key.now self.old.shelf) }
         ensures { self.new ≡ evicted key.now n self.old }
@@ -151,14 +153,16 @@ impl<T: Weighs> Shelf<T> {
     /// has changed.
     pub fn lift(&mut self, key: &[u8]) -> Option<T>
         ensures item { result ≡ item_at key.now self.old }
-        ensures place { self.new ≡ refilled key.now None self.old }
+        ensures places { self.new ≡ refilled key.now None self.old }
+        ensures absent { found key.now self.old ≡ None → self.new ≡ self.old }
     {
         let item = refill(&mut self.list, &mut self.sticky, key, None)?;
         self.total -= item.weight(key);
         Some(item)
     }
 
-    /// Puts the item into the key's hollow place.
+    /// Puts the item into the key's place, which has to be hollow. The total and the item's weight together have to be
+    /// at most the limit.
     pub fn lay(&mut self, key: &[u8], item: T)
         requires hollow { found key.now self.old ≡ Some None }
         requires room { total_of (place_weight T.weigh) self.old + T.weigh key.now item ≤ self.old.limit }
@@ -168,7 +172,8 @@ impl<T: Weighs> Shelf<T> {
         refill(&mut self.list, &mut self.sticky, key, Some(item));
     }
 
-    /// Moves the key's place to the other side: among the sticky ones, or to the front of the list.
+    /// Moves the key's place to the other side: among the sticky ones, or to the front of the list. The key has to have
+    /// a place there where it is taken from.
     ///
     /// `NoMemory` comes for want of memory alone, and then nothing has changed.
     pub fn restick(&mut self, key: &[u8], sticky: bool) -> Result<(), NoMemory>
@@ -188,7 +193,8 @@ impl<T: Weighs> Shelf<T> {
     /// hollow one, which goes.
     pub fn remove(&mut self, key: &[u8]) -> Option<T>
         ensures item { result ≡ item_at key.now self.old }
-        ensures rest { self.new ≡ without key.now self.old }
+        ensures places { self.new ≡ without key.now self.old }
+        ensures absent { found key.now self.old ≡ None → self.new ≡ self.old }
     {
         let item = take_away(&mut self.list, &mut self.sticky, key)?;
         self.total -= item.weight(key);

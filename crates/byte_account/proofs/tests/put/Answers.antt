@@ -6,7 +6,7 @@ use Rattle.byte_account.proofs.tests.put.Goals as goal
 
 pub reserve_new-requires : goal.reserve_new-requires
 reserve_new-requires g c =
-    ap (found c.in_ok-key.key) c.remove.ensures.rest
+    ap (found c.in_ok-key.key) c.remove.ensures.places
     ∙ ap (λ k. found k (without c.bytes-name.result.now c.args.shelf.now)) (c.in_ok-key.ensures ∙ sym c.bytes-name.ensures.bytes)
     ∙ found-without c.bytes-name.result.now c.args.shelf.now
 
