@@ -2,13 +2,14 @@
 use Rattle.std.proofs.Common.{◌≡◌, ℕ, ◌+◌, Bool, true, false, cond, ◌&&◌, ◌||◌, T, List, [], ◌∷◌, map, length, Option, Some, None, is_some, option_map, bytes_eq, nat_le, ℤ, refl, sym, ap, ◌∙◌, subst, arith}
 use Rattle.std.specs.Option.{option_or, option_map_or}
 use Rattle.std.specs.Ordering.{nat_cmp, is_lt}
-use Rattle.std.specs.Map.{lookup, set_value}
+use Rattle.std.specs.List.{IsDistinct}
+use Rattle.std.specs.Map.{keys_of, lookup, set_value}
 use Rattle.std.specs.Cmp.Lexicographic.{slice_cmp}
 use Rattle.std.specs.FinMap.Entries.{below_all}
 use Rattle.std.specs.FinMap.{FinMap, is_sorted, find}
 use Rattle.std.specs.FinMap as finite
 use Rattle.std.proofs.lemmas.List.{length-map}
-use Rattle.arc_core.specs.Places.{Places, found, others, count_of, to_front, shelved, touched, placed, refilled, without, weight_of, total_of}
+use Rattle.arc_core.specs.Places.{Places, HasEachKeyOnce, found, others, count_of, to_front, shelved, touched, placed, refilled, without, weight_of, total_of}
 use Rattle.arc_core.specs.Room.{shortest_suffix, survivors, evicted, fits, room}
 use Rattle.byte_account.specs.declared.room.Room.TheVariants.{Fits}
 use Rattle.byte_account.specs.ShelfWords.{room_answer}
@@ -139,6 +140,28 @@ module _ {X Y : Type 0} (f : X → Y) where
   count-map places =
       ap (λ n. n + finite.len (map_values f places.sticky)) (length-map places.shelf (λ place. (place.0, f place.1)))
       ∙ ap (λ n. length places.shelf + n) (finite.len-entries (map_values f places.sticky) ∙ ap length (entries-map_values places.sticky) ∙ length-map (finite.entries places.sticky) (λ place. (place.0, f place.1)) ∙ sym (finite.len-entries places.sticky))
+
+  keys_of-map : (shelf : List (List ℕ × X)) → keys_of (map_listed f shelf) ≡ keys_of shelf
+  keys_of-map [] = refl
+  keys_of-map (place ∷ older) = ap (λ rest. place.0 ∷ rest) (keys_of-map older)
+
+  none_back : (o : Option X) → option_map f o ≡ None → o ≡ None
+  none_back None h = refl
+  none_back (Some x) h = absurd (cc)
+
+  pub HasEachKeyOnce-map : (places : Places X) → HasEachKeyOnce places → HasEachKeyOnce (map_places f places)
+  HasEachKeyOnce-map places once =
+      record {
+        on_shelf = subst (IsDistinct bytes_eq) (sym (keys_of-map places.shelf)) once.on_shelf;
+        on_one_side = λ q there. get-map_values places.sticky q ∙ ap (option_map f) (once.on_one_side q (sym (is_some-map (lookup (bytes_eq q) places.shelf)) ∙ ap is_some (sym (lookup-map q places.shelf)) ∙ there));
+      }
+
+  pub HasEachKeyOnce-from_map : (places : Places X) → HasEachKeyOnce (map_places f places) → HasEachKeyOnce places
+  HasEachKeyOnce-from_map places once =
+      record {
+        on_shelf = subst (IsDistinct bytes_eq) (keys_of-map places.shelf) once.on_shelf;
+        on_one_side = λ q there. none_back _ (sym (get-map_values places.sticky q) ∙ once.on_one_side q (ap is_some (lookup-map q places.shelf) ∙ is_some-map (lookup (bytes_eq q) places.shelf) ∙ there));
+      }
 
 or_map : {A B : Type 0} (g : A → B) (a b : Option A) → option_or (option_map g a) (option_map g b) ≡ option_map g (option_or a b)
 or_map g None b = refl
