@@ -1,0 +1,14 @@
+pub mod ByBytesLemmas
+pub mod ShelfLists
+pub mod LruLemmas
+pub mod EvictionLemmas
+pub mod RoomLemmas
+pub mod StickyMaps
+pub mod StickySums
+pub mod PlacesLaws
+pub mod AccountingLaws
+pub mod RoomLaws
+pub mod FoundLaws
+pub mod EvictionLaws
+pub mod FilledLaws
+pub mod StoreLaws

@@ -1,0 +1,161 @@
+-- Room: what it is by the bytes that have to be freed, that it is the least, and that evicting it makes the room.
+use Rattle.std.proofs.Common.{◌≡◌, ℕ, suc, ◌+◌, ◌-◌, ◌<◌, ◌≤◌, Bool, true, false, cond, List, [], ◌∷◌, length, drop, Option, Some, None, option_map, nat_le, ℤ, pos, negsuc, ◌≤ℤ◌, refl, sym, ap, ◌∙◌, subst, inl, inr, arith}
+use Rattle.std.proofs.lemmas.Bool.{le-leb, cases_lt}
+use Rattle.std.proofs.lemmas.Int.{ints}
+use Rattle.std.specs.Option.{option_or, unwrap_or}
+use Rattle.std.proofs.lemmas.List.{append-nil}
+use Rattle.arc_core.specs.Places.{Places, others, weight_of, total_of}
+use Rattle.arc_core.specs.Room.{shortest_suffix, fits, room}
+use Rattle.byte_account.specs.declared.room.Room.{Room}
+use Rattle.byte_account.specs.declared.room.Room.TheVariants.{Fits, Nothing}
+use Rattle.byte_account.specs.ShelfWords.{room_answer, added_by}
+use Rattle.byte_account.specs.Accounting.{IsAccounted}
+use Rattle.byte_account.proofs.EvictionLemmas.{lt-leb-false}
+use Rattle.byte_account.specs.LeastEviction.{last_of, IsLeastEviction}
+use Rattle.byte_account.proofs.RoomLemmas.{is_enough, shortest_suffix-front}
+
+-- two tests that say the same of their numbers are one
+same_test : (a b c d : ℕ) → (a ≤ b → c ≤ d) → (c ≤ d → a ≤ b) → nat_le a b ≡ nat_le c d
+same_test a b c d there back = elim (cases_lt b a) [
+  | inl below ↦ lt-leb-false b a below ∙ sym (lt-leb-false d c (elim (cases_lt d c) [ inl h ↦ h | inr h ↦ absurd (let up : a ≤ b = back h in omega arith) ]))
+  | inr up ↦ le-leb a b up ∙ sym (le-leb c d (there up))
+]
+
+-- what is added fits once so much is freed as passes what is spare
+fits-by_need : (limit total : ℕ) (extra : ℤ) (freed : ℕ) → total ≤ limit → fits limit total extra freed ≡ nat_le (added_by extra - (limit - total)) freed
+fits-by_need limit total (pos extra) freed within = same_test (total + extra) (limit + freed) (extra - (limit - total)) freed (λ h. omega arith) (λ h. omega arith)
+fits-by_need limit total (negsuc less) freed within = same_test total (limit + freed + suc less) (0 - (limit - total)) freed (λ h. omega arith) (λ h. omega arith)
+
+module _ {X : Type 0} (weigh : List ℕ → X → ℕ) where
+  pub room-by_need : (places : Places X) (total : ℕ) (key : List ℕ) (extra : ℤ) → IsAccounted weigh places total
+      → room weigh places key extra ≡ shortest_suffix (is_enough weigh (added_by extra - (places.limit - total))) (others key places.shelf)
+  room-by_need places total key extra accounted =
+      let within : total_of weigh places ≤ places.limit = subst (λ n. n ≤ places.limit) accounted.sum accounted.within in
+      let same : (suffix : List (List ℕ × X)) → fits places.limit (total_of weigh places) extra (weight_of weigh suffix) ≡ is_enough weigh (added_by extra - (places.limit - total)) suffix =
+      λ suffix. fits-by_need places.limit (total_of weigh places) extra (weight_of weigh suffix) within
+      ∙ ap (λ n. nat_le (added_by extra - (places.limit - n)) (weight_of weigh suffix)) (sym accounted.sum) in
+      λ i. shortest_suffix (λ suffix. same suffix i) (others key places.shelf)
+
+  -- what a search for so many bytes found is room
+  pub room-from_need : (places now : Places X) (total : ℕ) (key : List ℕ) (extra : ℤ) (need : ℕ) (found : Option ℕ) → IsAccounted weigh places total → places ≡ now → need ≡ added_by extra - (places.limit - total)
+      → found ≡ option_map length (shortest_suffix (is_enough weigh need) (others key places.shelf)) → found ≡ option_map length (room weigh now key extra)
+  room-from_need places now total key extra need found accounted same need_is found_is =
+      found_is ∙ ap (λ n. option_map length (shortest_suffix (is_enough weigh n) (others key places.shelf))) need_is
+      ∙ ap (option_map length) (sym (room-by_need places total key extra accounted)) ∙ ap (λ p. option_map length (room weigh p key extra)) same
+
+pub fits_from_count : {A : Type 0} (n : ℕ) (suffix : Option (List A)) → Some n ≡ option_map length suffix → Fits n ≡ room_answer suffix
+fits_from_count n None h = absurd (cc)
+fits_from_count n (Some suffix) h = ap Fits (let same : n ≡ length suffix = cc in same)
+
+pub nothing_from_count : {A : Type 0} (suffix : Option (List A)) → None ≡ option_map (length {A = A}) suffix → Nothing ≡ room_answer suffix
+nothing_from_count None h = refl
+nothing_from_count (Some suffix) h = absurd (cc)
+
+-- The shortest suffix that is enough.
+
+pub last_of-cons : {A : Type 0} (k : ℕ) (x : A) (xs : List A) → k ≤ length xs → last_of k (x ∷ xs) ≡ last_of k xs
+last_of-cons k x xs few = ap (λ n. drop n (x ∷ xs)) (let more : length (x ∷ xs) - k ≡ suc (length xs - k) = omega arith in more)
+
+pub last_of-whole : {A : Type 0} (k : ℕ) (xs : List A) → k ≡ length xs → last_of k xs ≡ xs
+last_of-whole k xs whole = ap (λ n. drop n xs) (let none : length xs - k ≡ 0 = omega arith in none)
+
+none_first : {A : Type 0} (a b : Option A) → option_or a b ≡ None → a ≡ None
+none_first None b h = refl
+none_first (Some x) b h = h
+
+none_second : {A : Type 0} (a b : Option A) → option_or a b ≡ None → b ≡ None
+none_second None b h = h
+none_second (Some x) b h = absurd (cc)
+
+not_enough : {A : Type 0} (b : Bool) (xs : List A) → cond b (Some xs) None ≡ None → b ≡ false
+not_enough true xs h = absurd (cc)
+not_enough false xs h = refl
+
+-- where there is none, no suffix is enough
+pub shortest_suffix-none_enough : {A : Type 0} (enough : List A → Bool) (xs : List A) → shortest_suffix enough xs ≡ None → (k : ℕ) → k ≤ length xs → enough (last_of k xs) ≡ false
+shortest_suffix-none_enough enough [] none k few = ap enough (last_of-whole k [] (omega arith)) ∙ not_enough (enough []) [] none
+shortest_suffix-none_enough enough (x ∷ xs) none k few = elim (cases_lt (length xs) k) [
+  | inl whole ↦ ap enough (last_of-whole k (x ∷ xs) (omega arith)) ∙ not_enough (enough (x ∷ xs)) (x ∷ xs) (none_second (shortest_suffix enough xs) _ none)
+  | inr part ↦ ap enough (last_of-cons k x xs part) ∙ shortest_suffix-none_enough enough xs (none_first (shortest_suffix enough xs) _ none) k part
+]
+
+-- The suffix is the last places, is enough, and no shorter one is.
+pub record IsShortest {A : Type 0} (enough : List A → Bool) (xs suffix : List A) : Type 0 where
+  pub short : length suffix ≤ length xs
+  pub last : last_of (length suffix) xs ≡ suffix
+  pub suffices : enough suffix ≡ true
+  pub least : (k : ℕ) → k < length suffix → enough (last_of k xs) ≡ false
+
+same_suffix : {A : Type 0} (xs ys : List A) → Some xs ≡ Some ys → xs ≡ ys
+same_suffix xs ys h = ap (λ o. unwrap_or o xs) h
+
+shortest_whole : {A : Type 0} (enough : List A → Bool) (x : A) (xs suffix : List A) (b : Bool) → enough (x ∷ xs) ≡ b → shortest_suffix enough xs ≡ None → cond b (Some (x ∷ xs)) None ≡ Some suffix → IsShortest enough (x ∷ xs) suffix
+shortest_whole enough x xs suffix true e none h =
+    let same : x ∷ xs ≡ suffix = same_suffix (x ∷ xs) suffix h in
+    let count : length (x ∷ xs) ≡ length suffix = ap length same in
+    record {
+      short = omega arith;
+      last = last_of-whole (length suffix) (x ∷ xs) (sym count) ∙ same;
+      suffices = ap enough (sym same) ∙ e;
+      least = λ k fewer. let part : k ≤ length xs = omega arith in ap enough (last_of-cons k x xs part) ∙ shortest_suffix-none_enough enough xs none k part;
+    }
+shortest_whole enough x xs suffix false e none h = absurd (cc)
+
+shortest_cons : {A : Type 0} (enough : List A → Bool) (x : A) (xs suffix : List A) → IsShortest enough xs suffix → IsShortest enough (x ∷ xs) suffix
+shortest_cons enough x xs suffix s =
+    let short : length suffix ≤ length xs = s.short in
+    record {
+      short = omega arith;
+      last = last_of-cons (length suffix) x xs short ∙ s.last;
+      suffices = s.suffices;
+      least = λ k fewer. ap enough (last_of-cons k x xs (omega arith)) ∙ s.least k fewer;
+    }
+
+shortest_by : {A : Type 0} (enough : List A → Bool) (x : A) (xs suffix : List A) (rest : Option (List A)) → shortest_suffix enough xs ≡ rest → ((s : List A) → shortest_suffix enough xs ≡ Some s → IsShortest enough xs s)
+    → option_or rest (cond (enough (x ∷ xs)) (Some (x ∷ xs)) None) ≡ Some suffix → IsShortest enough (x ∷ xs) suffix
+shortest_by enough x xs suffix None e before h = shortest_whole enough x xs suffix (enough (x ∷ xs)) refl e h
+shortest_by enough x xs suffix (Some s) e before h = shortest_cons enough x xs suffix (before suffix (e ∙ h))
+
+shortest_nil : {A : Type 0} (enough : List A → Bool) (suffix : List A) (b : Bool) → enough [] ≡ b → cond b (Some []) None ≡ Some suffix → IsShortest enough [] suffix
+shortest_nil enough suffix true e h =
+    let same : [] ≡ suffix = same_suffix [] suffix h in
+    let count : 0 ≡ length suffix = ap length same in
+    record { short = omega arith; last = last_of-whole (length suffix) [] (sym count) ∙ same; suffices = ap enough (sym same) ∙ e; least = λ k fewer. absurd (omega arith) }
+shortest_nil enough suffix false e h = absurd (cc)
+
+pub IsShortest-shortest_suffix : {A : Type 0} (enough : List A → Bool) (xs suffix : List A) → shortest_suffix enough xs ≡ Some suffix → IsShortest enough xs suffix
+IsShortest-shortest_suffix enough [] suffix h = shortest_nil enough suffix (enough []) refl h
+IsShortest-shortest_suffix enough (x ∷ xs) suffix h = shortest_by enough x xs suffix (shortest_suffix enough xs) refl (λ s. IsShortest-shortest_suffix enough xs s) h
+
+module _ {X : Type 0} (weigh : List ℕ → X → ℕ) (places : Places X) (key : List ℕ) (extra : ℤ) where
+  abbrev room_fits : List (List ℕ × X) → Bool
+  room_fits suffix = fits places.limit (total_of weigh places) extra (weight_of weigh suffix)
+
+  least_by : (suffix : Option (List (List ℕ × X))) → room weigh places key extra ≡ suffix → IsLeastEviction weigh places key extra (room_answer suffix)
+  least_by None h = shortest_suffix-none_enough room_fits (others key places.shelf) h
+  least_by (Some suffix) h =
+      let s = IsShortest-shortest_suffix room_fits (others key places.shelf) suffix h in
+      (s.short, ap room_fits s.last ∙ s.suffices, s.least)
+
+  -- room is the least eviction
+  pub IsLeastEviction-room : IsLeastEviction weigh places key extra (room_answer (room weigh places key extra))
+  IsLeastEviction-room = least_by (room weigh places key extra) refl
+
+  -- where nothing is added, nothing is evicted
+  pub room-nothing_added : fits places.limit (total_of weigh places) extra 0 ≡ true → room weigh places key extra ≡ Some []
+  room-nothing_added kept =
+      ap (shortest_suffix room_fits) (sym (append-nil (others key places.shelf)))
+      ∙ shortest_suffix-front room_fits (others key places.shelf) [] [] (ap (λ b. cond b (Some []) None) kept)
+
+pub fits_nothing_added : (limit total : ℕ) (extra : ℤ) → total ≤ limit → extra ≤ℤ pos 0 → fits limit total extra 0 ≡ true
+fits_nothing_added limit total (pos extra) within below = le-leb (total + extra) (limit + 0) (omega (arith, ints))
+fits_nothing_added limit total (negsuc less) within below = le-leb total (limit + 0 + suc less) (omega arith)
+
+-- the two clauses, at the answer that was given
+pub least_answer : {X : Type 0} (weigh : List ℕ → X → ℕ) (places : Places X) (key : List ℕ) (extra : ℤ) (answer : Room) → answer ≡ room_answer (room weigh places key extra) → IsLeastEviction weigh places key extra answer
+least_answer weigh places key extra answer is = subst (IsLeastEviction weigh places key extra) (sym is) (IsLeastEviction-room weigh places key extra)
+
+pub nothing_evicted : {X : Type 0} (weigh : List ℕ → X → ℕ) (places : Places X) (total : ℕ) (key : List ℕ) (extra : ℤ) (answer : Room) → IsAccounted weigh places total → answer ≡ room_answer (room weigh places key extra) → extra ≤ℤ pos 0 → answer ≡ Fits 0
+nothing_evicted weigh places total key extra answer accounted is below =
+    let within : total_of weigh places ≤ places.limit = subst (λ n. n ≤ places.limit) accounted.sum accounted.within in
+    is ∙ ap room_answer (room-nothing_added weigh places key extra (fits_nothing_added places.limit (total_of weigh places) extra within below))

@@ -1,0 +1,7 @@
+use Rattle.byte_account.proofs.StickyMaps.{inserted}
+use Rattle.byte_account.proofs.sticky_table.StickyTable.insert.Goals as goal
+
+pub returns-clause-ok : goal.returns-clause-ok
+returns-clause-ok g c =
+    rw (← c.self.view_is)
+    (inserted (λ key. key.items) c.args.key.items c.args.place c.self.inside.table.entries c.insert.new.self.entries c.in_ok-insert.ensures.updates.1 c.in_ok-insert.ensures.updates.3)

@@ -1,0 +1,40 @@
+-- What the calls of the shelf speak of. A place may be hollow, which is to say that its item is still to come.
+use Rattle.std.specs.Prelude.{ℕ, Bool, true, false, List, length, bytes_eq, Option, Some, None, ℤ, pos, negsuc}
+use Rattle.std.specs.Option.{option_map_or, option_flatten}
+use Rattle.std.specs.Map.{lookup}
+use Rattle.std.specs.FinMap as finite
+use Rattle.arc_core.specs.Places.{Places, found, placed, without}
+use Rattle.byte_account.specs.declared.room.Room.{Room}
+use Rattle.byte_account.specs.declared.room.Room.TheVariants.{Fits, Nothing}
+
+-- the item under the key: none where the key has no place, or a hollow one
+abbrev pub item_at : {T : Type 0} → List ℕ → Places (Option T) → Option T
+item_at key places = option_flatten (found key places)
+
+-- what stands under the key among the sticky places, or on the list
+abbrev pub on_side : {X : Type 0} → Bool → List ℕ → Places X → Option X
+on_side true key places = finite.get places.sticky key
+on_side false key places = lookup (bytes_eq key) places.shelf
+
+-- the key's place moved to the side that is named
+abbrev pub restuck : {X : Type 0} → Bool → List ℕ → Places X → Places X
+restuck sticky key places = option_map_or (λ x. placed sticky key x places) (found key places) places
+
+-- the places without the key's, where that is hollow
+abbrev pub cancelled_at : {T : Type 0} → Option (Option T) → List ℕ → Places (Option T) → Places (Option T)
+cancelled_at None key places = places
+cancelled_at (Some None) key places = without key places
+cancelled_at (Some (Some item)) key places = places
+
+abbrev pub cancelled : {T : Type 0} → List ℕ → Places (Option T) → Places (Option T)
+cancelled key places = cancelled_at (found key places) key places
+
+-- the answer on room, by the suffix that is evicted
+abbrev pub room_answer : {A : Type 0} → Option (List A) → Room
+room_answer None = Nothing
+room_answer (Some suffix) = Fits (length suffix)
+
+-- what a change of the total adds to it
+abbrev pub added_by : ℤ → ℕ
+added_by (pos extra) = extra
+added_by (negsuc less) = 0

@@ -1,0 +1,7 @@
+-- What a place weighs.
+use Rattle.std.specs.Prelude.{ℕ, List, Option, Some, None}
+
+-- the weight of what stands in a place: the item's, or 0 where the item is still to come
+abbrev pub place_weight : {T : Type 0} → (List ℕ → T → ℕ) → List ℕ → Option T → ℕ
+place_weight weigh key None = 0
+place_weight weigh key (Some item) = weigh key item

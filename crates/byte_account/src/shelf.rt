@@ -1,0 +1,265 @@
+//! The shelf: items under their keys, their bytes accounted, and room found by the least eviction.
+ghost use Rattle.std.specs.Prelude.{◌≡◌, ◌+◌, ◌≤◌, ◌≤ℤ◌, pos, not, bytes_eq, Option, Some, None, length, option_copied, if◌then◌else◌, IfOk, OnOk, OnErr, IsSome};
+ghost use Rattle.std.specs.Option.{option_or, option_flatten};
+ghost use Rattle.std.specs.List.{IsDistinct};
+ghost use Rattle.std.specs.Map.{keys_of, lookup, set_value};
+ghost use Rattle.std.specs.FinMap as finite;
+ghost use Rattle.arc_core.specs.Places.{Places, HasEachKeyOnce, empty_places, found, others, count_of, total_of, touched, placed, refilled, without};
+ghost use Rattle.arc_core.specs.Room.{room, evicted};
+ghost use Rattle.byte_account.specs.LeastEviction.{IsLeastEviction};
+ghost use Rattle.byte_account.specs.ShelfWords.{added_by, item_at, on_side, restuck, cancelled, room_answer};
+ghost use Rattle.byte_account.specs.Weight.{place_weight};
+
+use crate::Weighs;
+use crate::recency_list::RecencyList;
+use crate::room::Room;
+use crate::sticky_table::StickyTable;
+use arc_core::{Key, NoMemory};
+use std::alloc::Global;
+use std::marker::Model;
+
+/// Items under their keys. An item is sticky, or it stands on the list of those that may be evicted, most recently
+/// used first.
+///
+/// A place may be hollow: the key has it, and its item, which weighs nothing, is still to come. Contracts see the
+/// shelf as its places on both sides, where a hollow one has no item, and its limit in bytes. The total of the items'
+/// weights is at most the limit, and no key has two places.
+#[derive(Drop)]
+pub struct Shelf<T: Weighs> {
+    list: RecencyList<T>,
+    sticky: StickyTable<T>,
+    limit: u64,
+    total: u64,
+}
+
+impl<T: Weighs> Model for Shelf<T> {
+    ghost use Rattle.std.specs.Prelude.{Option};
+    ghost use Rattle.std.specs.Coded.{coded_option};
+    ghost use Rattle.arc_core.specs.Places.{Places};
+    ghost use Rattle.byte_account.specs.PlacesCode.{places_code};
+    ghost use Rattle.byte_account.specs.Weight.{place_weight};
+    ghost use Rattle.byte_account.specs.Accounting.{IsAccounted};
+
+    ghost Value = { Places (Option T) };
+
+    ghost coded = { places_code (coded_option T.code) };
+
+    ghost view = { λ s. record { shelf = s.list; sticky = s.sticky; limit = s.limit } };
+
+    ghost invariant = { λ s. IsAccounted (place_weight T.weigh) (record { shelf = s.list; sticky = s.sticky; limit = s.limit }) s.total };
+}
+
+impl<T: Weighs> Shelf<T> {
+    /// An empty shelf with this limit in bytes. `NoMemory` comes for want of memory alone.
+    pub fn new(alloc: Global, limit: u64) -> Result<Shelf<T>, NoMemory>
+        ensures { IfOk result (λ shelf. shelf ≡ empty_places limit) }
+    {
+        let list = RecencyList::new(alloc)?;
+        Ok(Shelf {
+            list,
+            sticky: StickyTable::new(alloc),
+            limit,
+            total: 0,
+        })
+    }
+
+    /// The bytes that all items weigh together, which are at most the limit.
+    pub fn total(&self) -> u64
+        ensures sum { result ≡ total_of (place_weight T.weigh) self.now }
+        ensures within { result ≤ self.now.limit }
+        ensures once { HasEachKeyOnce self.now }
+    {
+        self.total
+    }
+
+    /// The number of places, hollow ones among them.
+    pub fn count(&self) -> u64
+        ensures { result ≡ count_of self.now }
+    {
+        self.list.len() as u64 + self.sticky.len() as u64
+    }
+
+    /// The item under the key; `None` where there is none, also where the place is hollow.
+    pub fn look(&self, key: &[u8]) -> Option<&T>
+        ensures { option_copied result ≡ item_at key.now self.now }
+    {
+        self.place(key)?.as_ref()
+    }
+
+    /// Marks the key as used: where it has a place that is not sticky, that moves to the front. Else nothing changes.
+    pub fn touch(&mut self, key: &[u8])
+        ensures places { self.new ≡ touched key.now self.old }
+        ensures absent { found key.now self.old ≡ None → self.new ≡ self.old }
+    {
+        self.list.promote(key);
+    }
+
+    /// Makes a hollow place for a key that has none, which is the condition: a sticky one, or one in front of the list.
+    ///
+    /// `NoMemory` comes for want of memory alone, and then nothing has changed.
+    pub fn reserve_new(&mut self, key: Key, sticky: bool) -> Result<(), NoMemory>
+        requires { found key self.old ≡ None }
+        ensures ok { OnOk result (self.new ≡ placed sticky key None self.old) }
+        ensures err { OnErr result (self.new ≡ self.old) }
+    {
+        let key = key.into_bytes();
+        if sticky {
+            self.sticky.insert(key, None)?;
+            return Ok(());
+        }
+        let Err(_) = self.list.put_first(key, None) else {
+            return Ok(());
+        };
+        Err(NoMemory)
+    }
+
+    /// Takes the key's place away if it is hollow. Any other place stays.
+    pub fn cancel(&mut self, key: &[u8])
+        ensures { self.new ≡ cancelled key.now self.old }
+    {
+        if let Some(None) = self.place(key) {
+            take_away(&mut self.list, &mut self.sticky, key);
+        }
+    }
+
+    /// Whether `extra` bytes more fit under the key, and after how many evictions of the least recently used places but
+    /// the key's own. `extra` is what the total rises by, or falls by where it is negative.
+    ///
+    /// `Fits` has the least number of evictions, 0 where `extra` is not above 0. `Nothing` comes exactly where not even
+    /// evicting all of these places makes room. (This server's own rule.)
+    pub fn room(&self, key: &[u8], extra: i64) -> Room
+        ensures room { result ≡ room_answer (room (place_weight T.weigh) self.now key.now extra) }
+        ensures least { IsLeastEviction (place_weight T.weigh) self.now key.now extra result }
+        ensures nothing_added { extra ≤ℤ pos 0 → result ≡ Room.Fits 0 }
+    {
+        let spare = self.limit - self.total;
+        let need = added(extra).saturating_sub(spare);
+        match self.list.fewest_to_free(key, need) {
+            Some(evictions) => Room::Fits(evictions),
+            None => Room::Nothing,
+        }
+    }
+
+    /// Evicts the `n` least recently used places but the key's, of which there have to be so many. The key's place and
+    /// the others keep their order.
+    pub fn evict(&mut self, key: &[u8], n: u64)
+        requires { n ≤ length (others key.now self.old.shelf) }
+        ensures { self.new ≡ evicted key.now n self.old }
+    {
+        self.total -= self.list.evict(key, n as usize);
+    }
+
+    /// Takes the item out from under the key, whose place stays, hollow. `None` where there is no item; then nothing
+    /// has changed.
+    pub fn lift(&mut self, key: &[u8]) -> Option<T>
+        ensures item { result ≡ item_at key.now self.old }
+        ensures places { self.new ≡ refilled key.now None self.old }
+        ensures absent { found key.now self.old ≡ None → self.new ≡ self.old }
+    {
+        let item = refill(&mut self.list, &mut self.sticky, key, None)?;
+        self.total -= item.weight(key);
+        Some(item)
+    }
+
+    /// Puts the item into the key's place, which has to be hollow. The total and the item's weight together have to be
+    /// at most the limit.
+    pub fn lay(&mut self, key: &[u8], item: T)
+        requires hollow { found key.now self.old ≡ Some None }
+        requires room { total_of (place_weight T.weigh) self.old + T.weigh key.now item ≤ self.old.limit }
+        ensures { self.new ≡ refilled key.now (Some item) self.old }
+    {
+        self.total += item.weight(key);
+        refill(&mut self.list, &mut self.sticky, key, Some(item));
+    }
+
+    /// Moves the key's place to the other side: among the sticky ones, or to the front of the list. The key has to have
+    /// a place there where it is taken from.
+    ///
+    /// `NoMemory` comes for want of memory alone, and then nothing has changed.
+    pub fn restick(&mut self, key: &[u8], sticky: bool) -> Result<(), NoMemory>
+        requires { IsSome (on_side (not sticky) key.now self.old) }
+        ensures ok { OnOk result (self.new ≡ restuck sticky key.now self.old) }
+        ensures err { OnErr result (self.new ≡ self.old) }
+    {
+        if sticky {
+            self.sticky.take_from(&mut self.list, key)?;
+            return Ok(());
+        }
+        self.sticky.give_to(&mut self.list, key)?;
+        Ok(())
+    }
+
+    /// Takes the key's place away and hands out its item. `None` where there is no item: the key has no place, or a
+    /// hollow one, which goes.
+    pub fn remove(&mut self, key: &[u8]) -> Option<T>
+        ensures item { result ≡ item_at key.now self.old }
+        ensures places { self.new ≡ without key.now self.old }
+        ensures absent { found key.now self.old ≡ None → self.new ≡ self.old }
+    {
+        let item = take_away(&mut self.list, &mut self.sticky, key)?;
+        self.total -= item.weight(key);
+        Some(item)
+    }
+
+    /// Takes all places away.
+    pub fn clear(&mut self)
+        ensures { self.new ≡ empty_places self.old.limit }
+    {
+        self.list.clear();
+        self.sticky.clear();
+        self.total = 0;
+    }
+
+    // The key's place, on whichever side.
+    fn place(&self, key: &[u8]) -> Option<&Option<T>>
+        ensures { option_copied result ≡ found key.now self.now }
+    {
+        match self.list.get(key) {
+            Some(place) => Some(place),
+            None => self.sticky.get(key),
+        }
+    }
+}
+
+// What `extra` adds to the total: nothing where it is negative.
+fn added(extra: i64) -> u64
+    ensures { result ≡ added_by extra }
+{
+    if extra > 0 { extra as u64 } else { 0 }
+}
+
+// Puts something else into the key's place, on whichever side. Answers the item that was there.
+fn refill<T: Weighs>(
+    list: &mut RecencyList<T>,
+    sticky: &mut StickyTable<T>,
+    key: &[u8],
+    place: Option<T>,
+) -> Option<T>
+    requires { IsSome (lookup (bytes_eq key.now) list.old) → finite.get sticky.old key.now ≡ None }
+    ensures item { result ≡ option_flatten (option_or (lookup (bytes_eq key.now) list.old) (finite.get sticky.old key.now)) }
+    ensures list { list.new ≡ set_value (bytes_eq key.now) list.old place }
+    ensures sticky { sticky.new ≡ (if finite.contains_key sticky.old key.now then finite.insert sticky.old key.now place else sticky.old) }
+{
+    match list.replace(key, place) {
+        Ok(old) => old,
+        Err(place) => sticky.replace(key, place)?,
+    }
+}
+
+// Takes the key's place away, on whichever side. Answers the item that was there.
+fn take_away<T: Weighs>(
+    list: &mut RecencyList<T>,
+    sticky: &mut StickyTable<T>,
+    key: &[u8],
+) -> Option<T>
+    requires apart { IsDistinct bytes_eq (keys_of list.old) }
+    requires once { IsSome (lookup (bytes_eq key.now) list.old) → finite.get sticky.old key.now ≡ None }
+    ensures item { result ≡ option_flatten (option_or (lookup (bytes_eq key.now) list.old) (finite.get sticky.old key.now)) }
+    ensures list { list.new ≡ others key.now list.old }
+    ensures sticky { sticky.new ≡ finite.remove sticky.old key.now }
+{
+    match list.remove(key) {
+        Some((_, old)) => old,
+        None => sticky.remove(key)?,
+    }
+}

@@ -1,0 +1,148 @@
+//! A shelf of parcels, worked by hand: a parcel weighs its size and a byte for each byte of its key.
+ghost use Rattle.std.specs.Prelude.{◌≡◌, ◌+◌, Some, None, length, min};
+ghost use Rattle.arc_core.specs.Places.{found};
+
+use crate::{Room, Shelf, Weighs};
+use arc_core::{Key, KeyRef, NoMemory};
+use std::alloc::Global;
+use std::test::Fail;
+
+#[derive(Debug, PartialEq, Drop)]
+struct Parcel {
+    size: u32,
+}
+
+impl Weighs for Parcel {
+    ghost weigh = { λ key parcel. parcel.size + min (length key) 16000 };
+
+    fn weight(&self, key: &[u8]) -> u64 {
+        u64::from(self.size) + key.len().min(16_000) as u64
+    }
+}
+
+// Puts a new item under the key, by a place that is made on the other side first.
+fn put<T: Weighs>(
+    shelf: &mut Shelf<T>,
+    alloc: Global,
+    key: KeyRef<'_>,
+    item: T,
+    sticky: bool,
+) -> Result<Room, NoMemory> {
+    let name = key.bytes();
+    let key = Key::copy(alloc, key)?;
+    shelf.remove(name);
+    shelf.reserve_new(key, !sticky)?;
+    shelf.restick(name, sticky)?;
+    Ok(fill(shelf, name, item))
+}
+
+// Replaces the item under the key, where there is one.
+fn replace<T: Weighs>(shelf: &mut Shelf<T>, name: &[u8], item: T) -> Option<T> {
+    let old = shelf.lift(name)?;
+    fill(shelf, name, item);
+    Some(old)
+}
+
+// Lays the item into the hollow place where there is room for it at once, and else takes the place away. Answers what
+// room was.
+fn fill<T: Weighs>(shelf: &mut Shelf<T>, name: &[u8], item: T) -> Room
+    requires { found name.now shelf.old ≡ Some None }
+{
+    let Ok(extra) = i64::try_from(item.weight(name)) else {
+        return Room::Nothing;
+    };
+    let room = shelf.room(name, extra);
+    match room {
+        Room::Fits(0) => shelf.lay(name, item),
+        _ => shelf.cancel(name),
+    }
+    room
+}
+
+// Evicts what room asks for, and answers what it was.
+fn make_room<T: Weighs>(shelf: &mut Shelf<T>, name: &[u8], extra: i64) -> Room {
+    let room = shelf.room(name, extra);
+    if let Room::Fits(evictions) = room {
+        shelf.evict(name, evictions);
+    }
+    room
+}
+
+fn sizes(shelf: &Shelf<Parcel>) -> [Option<u32>; 3] {
+    let size = |key| shelf.look(key).map(|parcel: &Parcel| parcel.size);
+    [size(b"a"), size(b"b"), size(b"c")]
+}
+
+#[test]
+fn accounts_and_evicts(rt: HostRuntime) -> Result<(), Fail> {
+    let mut shelf = Shelf::new(rt.alloc(), 100)?;
+    // Weights 10, 20 and 30; c is the most recently used.
+    for (key, size) in [(b"a", 9), (b"b", 19), (b"c", 29)] {
+        assert_eq!(rt;
+            put(
+                &mut shelf,
+                rt.alloc(),
+                KeyRef::of(key),
+                Parcel { size },
+                false
+            )?,
+            Room::Fits(0)
+        );
+    }
+    assert_eq!(rt; (shelf.total(), shelf.count()), (60, 3));
+    shelf.touch(b"a");
+
+    // 40 bytes are spare. The oldest is b; a key's own place makes no room for it.
+    let rooms = [
+        (b"d", 40, Room::Fits(0)),
+        (b"d", -5, Room::Fits(0)),
+        (b"d", 41, Room::Fits(1)),
+        (b"d", 61, Room::Fits(2)),
+        (b"d", 100, Room::Fits(3)),
+        (b"d", 101, Room::Nothing),
+        (b"b", 80, Room::Fits(2)),
+        (b"b", 81, Room::Nothing),
+    ];
+    for (key, extra, room) in rooms {
+        assert_eq!(rt; shelf.room(key, extra), room, "for {extra}");
+    }
+    assert_eq!(rt; make_room(&mut shelf, b"b", 41), Room::Fits(1));
+    assert_eq!(rt; sizes(&shelf), [Some(9), Some(19), None]);
+    assert_eq!(rt; (shelf.total(), shelf.count()), (30, 2));
+
+    // The item under a becomes heavier, and then sticky: it is not evicted any more.
+    assert_eq!(rt;
+        replace(&mut shelf, b"a", Parcel { size: 39 }),
+        Some(Parcel { size: 9 })
+    );
+    assert_eq!(rt; shelf.total(), 60);
+    assert_eq!(rt;
+        put(
+            &mut shelf,
+            rt.alloc(),
+            KeyRef::of(b"a"),
+            Parcel { size: 39 },
+            true
+        )?,
+        Room::Fits(0)
+    );
+    assert_eq!(rt; (shelf.total(), shelf.room(b"d", 60)), (60, Room::Fits(1)));
+    assert_eq!(rt; shelf.room(b"d", 61), Room::Nothing);
+    assert_eq!(rt;
+        put(
+            &mut shelf,
+            rt.alloc(),
+            KeyRef::of(b"d"),
+            Parcel { size: 40 },
+            false
+        )?,
+        Room::Fits(1)
+    );
+    assert_eq!(rt; shelf.count(), 2);
+
+    assert_eq!(rt; shelf.remove(b"b"), Some(Parcel { size: 19 }));
+    assert_eq!(rt; (shelf.total(), shelf.count()), (40, 1));
+    shelf.clear();
+    assert_eq!(rt; (shelf.total(), shelf.count()), (0, 0));
+    Ok(())
+}
