@@ -56,7 +56,8 @@ impl MemorySource {
     /// Takes no memory.
     pub fn new(bytes: Vec<u8>, most: usize, failing: Vec<u64>) -> MemorySource
         requires { 0 < most }
-        ensures { ⟦<MemorySource as Source>⟧.left result ≡ Some bytes.items }
+        ensures left { ⟦<MemorySource as Source>⟧.left result ≡ Some bytes.items }
+        ensures no_fault { ⟦<MemorySource as Source>⟧.read_faults result ≡ 0 }
     {
         MemorySource {
             steady: SteadySource::new(bytes, most),
@@ -97,7 +98,8 @@ impl SteadySink {
     /// A sink to which nothing was sent, and of which a push takes at most `most` bytes at once. Takes no memory.
     pub fn new(alloc: Global, most: usize) -> SteadySink
         requires { 0 < most }
-        ensures { ⟦<SteadySink as Sink>⟧.sent result ≡ Some [] }
+        ensures sent { ⟦<SteadySink as Sink>⟧.sent result ≡ Some [] }
+        ensures no_refusal { ⟦<SteadySink as Sink>⟧.refusals result ≡ 0 }
     {
         SteadySink {
             bytes: Vec::new(alloc),
@@ -147,7 +149,9 @@ impl MemorySink {
     /// fail. Takes no memory.
     pub fn new(alloc: Global, most: usize, failing: Vec<u64>) -> MemorySink
         requires { 0 < most }
-        ensures { ⟦<MemorySink as Sink>⟧.sent result ≡ Some [] }
+        ensures sent { ⟦<MemorySink as Sink>⟧.sent result ≡ Some [] }
+        ensures no_fault { ⟦<MemorySink as Sink>⟧.write_faults result ≡ 0 }
+        ensures no_refusal { ⟦<MemorySink as Sink>⟧.refusals result ≡ 0 }
     {
         MemorySink {
             steady: SteadySink::new(alloc, most),
