@@ -1,11 +1,10 @@
 -- Where a session begins, and one that ends there.
-use Rattle.std.proofs.Common.{◌≡◌, ℕ, List, [], ◌++◌, length, Option, Some, None, refl, sym, ap, inl, arith}
-use Rattle.std.proofs.lemmas.List.{append-nil}
+use Rattle.std.proofs.Common.{◌≡◌, ℕ, List, [], Option, Some, None, refl, sym, inl}
 use Rattle.arc_core.specs.Outside.{first_then}
 use Rattle.arc_core.specs.Grammar.{line_needs}
 use Rattle.arc_core.specs.CacheState.{CacheState}
 use Rattle.frame_reader.specs.Progress.{Progress, StandsFor}
-use Rattle.arcus_tool.specs.Handling.{Stand, stand, Went}
+use Rattle.arcus_tool.specs.Handling.{Stand, Went}
 use Rattle.arcus_tool.specs.declared.status.Status.TheVariants as status
 use Rattle.arcus_tool.specs.Session.{Outside, IsSession, RanSoFar, start_of}
 use Rattle.arcus_tool.proofs.Sending.{sent_nothing}

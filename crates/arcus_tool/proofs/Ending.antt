@@ -1,7 +1,6 @@
 -- What one pull does to a session.
-use Rattle.std.proofs.Common.{◌≡◌, ◌≢◌, ◌+◌, ◌≤◌, ◌<◌, ◌^◌, ℕ, List, [], ◌∷◌, ◌++◌, length, take, Option, Some, None, Result, Ok, Err, refl, sym, ap, ◌∙◌, subst, append_assoc, arith, inl, inr, length-append}
+use Rattle.std.proofs.Common.{◌≡◌, ◌≤◌, ◌<◌, ◌^◌, ℕ, List, [], ◌∷◌, ◌++◌, length, Option, Some, None, refl, sym, ap, ◌∙◌, subst, append_assoc, arith, inr}
 use Rattle.std.specs.Prelude.{MatchOption, IfSome}
-use Rattle.std.specs.List.{AllByRecursion}
 use Rattle.std.proofs.lemmas.List.{append-nil}
 use Rattle.arc_core.specs.declared.outside.Need.{Need}
 use Rattle.arc_core.specs.Outside.{Rose, first_then, CameToEnd, FailedToPull}
@@ -9,7 +8,7 @@ use Rattle.arc_core.specs.Framing.{Whole, IsSpan, IsRest, IsLast, line, line_wit
 use Rattle.arc_core.specs.Grammar.{line_needs}
 use Rattle.arc_core.specs.CacheState.{CacheState}
 use Rattle.frame_reader.specs.Progress.{Progress, StandsFor, ready_unit}
-use Rattle.arcus_tool.specs.Handling.{Stand, Went, GoesOn, Stops, BrokeOff, EndsTooLong, NoneTooLong}
+use Rattle.arcus_tool.specs.Handling.{Stand, Went, GoesOn, Stops, BrokeOff, NoneTooLong}
 use Rattle.arcus_tool.specs.declared.output.Unsent.TheVariants as unsent
 use Rattle.arcus_tool.specs.declared.units.Stop.TheVariants as stop
 use Rattle.arcus_tool.specs.declared.status.Status.TheVariants as status

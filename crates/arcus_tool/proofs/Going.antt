@@ -1,8 +1,8 @@
 -- A session that goes on by one unit.
-use Rattle.std.proofs.Common.{◌≡◌, ◌≤◌, ◌<◌, ℕ, List, [], ◌∷◌, ◌++◌, take, drop, Option, Some, None, Result, Ok, Err, refl, sym, ap, ◌∙◌, subst, append_assoc}
-use Rattle.std.proofs.lemmas.List.{append-nil, take-append-drop}
+use Rattle.std.proofs.Common.{◌≡◌, ℕ, List, [], ◌∷◌, ◌++◌, take, drop, Option, Some, None, Ok, Err, refl, sym, ap, ◌∙◌, subst, append_assoc}
+use Rattle.std.proofs.lemmas.List.{take-append-drop}
 use Rattle.std.specs.Prelude.{MatchOption, IfSome}
-use Rattle.arc_core.specs.Framing.{Whole, BeginsWith, IsSpan, IsRest, line_too_long}
+use Rattle.arc_core.specs.Framing.{Whole, IsSpan, IsRest, line_too_long}
 use Rattle.arc_core.specs.Grammar.{line_needs}
 use Rattle.arc_core.specs.SessionText.{TellsUnit}
 use Rattle.arc_core.specs.Outside.{then_sent}
@@ -12,8 +12,7 @@ use Rattle.frame_reader.specs.declared.units.Unit.{Unit as UnitOfBytes}
 use Rattle.frame_reader.specs.declared.units.Unit.TheVariants as unit_of
 use Rattle.arcus_tool.specs.declared.output.Unsent.{Unsent}
 use Rattle.arcus_tool.specs.declared.units.Stop.TheVariants as stop
-use Rattle.arcus_tool.specs.Output.{IsSent, IsSentInPart}
-use Rattle.arcus_tool.specs.Handling.{Stand, Executed, IsTold, Went, BrokeOff, EndsTooLong, GoesOn, Stops}
+use Rattle.arcus_tool.specs.Handling.{Stand, IsTold, Went, BrokeOff, GoesOn, Stops}
 use Rattle.arcus_tool.proofs.Sending.{sent_on, sent_nothing, cause_since}
 use Rattle.arcus_tool.proofs.Histories.{executed_on, spans_on, tells_on, none_on}
 use Rattle.arcus_tool.proofs.Telling.{nothing_executed}

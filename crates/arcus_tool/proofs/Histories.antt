@@ -1,13 +1,12 @@
 -- One history after another, and one unit after others.
-use Rattle.std.proofs.Common.{◌≡◌, ℕ, List, [], ◌∷◌, ◌++◌, Option, Bool, true, refl, sym, ap, ◌∙◌, subst, append_assoc}
+use Rattle.std.proofs.Common.{◌≡◌, ℕ, List, [], ◌∷◌, ◌++◌, Option, true, refl, sym, ap, ◌∙◌, subst, append_assoc}
 use Rattle.std.specs.List.{AllByRecursion}
 use Rattle.std.proofs.lemmas.List.{append-nil}
 use Rattle.arc_core.specs.declared.outside.Need.{Need}
-use Rattle.arc_core.specs.Outside.{Ticks}
 use Rattle.arc_core.specs.CacheState.{CacheState}
-use Rattle.arc_core.specs.History.{Entry, Executes, Replays}
+use Rattle.arc_core.specs.History.{Entry, Replays}
 use Rattle.arc_core.specs.Framing.{Whole, BeginsWith, IsSpan, line_too_long}
-use Rattle.arc_core.specs.SessionText.{TellsUnit, TellsGroups, Tells, Group, alone, groups}
+use Rattle.arc_core.specs.SessionText.{TellsUnit, Tells}
 use Rattle.arcus_tool.specs.Handling.{Stand, TicksThrough, IsOwn, Executed, NoneTooLong}
 
 pub replays_on : (old middle new : CacheState) (first next : List Entry) → Replays old first middle → Replays middle next new → Replays old (first ++ next) new

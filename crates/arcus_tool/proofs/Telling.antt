@@ -1,7 +1,5 @@
 -- What was told of a line.
-use Rattle.std.proofs.Common.{◌≡◌, ◌⊎◌, ◌≤◌, ℕ, List, [], ◌∷◌, length, Option, Result, Ok, Err, refl, sym, ap, ◌∙◌, inl, inr, subst, arith}
-use Rattle.std.specs.List.{AllByRecursion}
-use Rattle.arc_core.specs.declared.outside.Need.{Need}
+use Rattle.std.proofs.Common.{◌≡◌, ◌⊎◌, ℕ, List, [], ◌∷◌, Result, refl, sym, ◌∙◌, inl, inr, subst, arith}
 use Rattle.arc_core.specs.declared.outside.Need.TheVariants as need
 use Rattle.arc_core.specs.declared.replies.Reply.{Reply}
 use Rattle.arc_core.specs.declared.replies.Word.{Word}
@@ -15,7 +13,7 @@ use Rattle.arc_core.specs.ReplyText.{reply_text, word_line}
 use Rattle.arc_core.specs.Framing.{bad_chunk, too_large}
 use Rattle.arc_core.specs.SessionText.{TellsUnit}
 use Rattle.arcus_tool.specs.declared.output.Unsent.{Unsent}
-use Rattle.arcus_tool.specs.Handling.{Stand, IsTold, TellsRequest, TellsLine, HasItsBlock, SendsBetween, Executed, IsOwn}
+use Rattle.arcus_tool.specs.Handling.{Stand, IsTold, TellsRequest, TellsLine, HasItsBlock, SendsBetween, Executed}
 
 -- a request was executed at a second of the clock, and its reply was sent
 pub told_request : (from to : Stand) (request done : PlainRequest) (reply : Reply) (second : ℕ) (result : Result Unit Unsent) → done ≡ request

@@ -1,21 +1,20 @@
 -- How the units of a session are handled, one after another.
-use Rattle.std.specs.Prelude.{◌≡◌, ◌⊎◌, ℕ, ◌≤◌, List, [], ◌∷◌, ◌++◌, length, drop, Option, Some, None, Result, Ok, Err, true}
+use Rattle.std.specs.Prelude.{◌≡◌, ◌⊎◌, ℕ, ◌≤◌, List, [], ◌∷◌, ◌++◌, length, drop, Option, None, Result, Ok, Err, true}
 use Rattle.std.specs.List.{AllByRecursion}
 use Rattle.arc_core.specs.declared.outside.Need.TheVariants as need
 use Rattle.arc_core.specs.declared.replies.Word.{Word}
 use Rattle.arc_core.specs.declared.replies.Word.TheVariants as word
-use Rattle.arc_core.specs.Outside.{Ticks, then_sent, Rose}
-use Rattle.arc_core.specs.Framing.{Whole, BeginsWith, IsSpan, line_too_long}
+use Rattle.arc_core.specs.Outside.{Ticks, then_sent}
+use Rattle.arc_core.specs.Framing.{Whole, BeginsWith, line_too_long}
 use Rattle.arc_core.specs.Grammar.{SpellsRequest, IsUnknown, IsBadFormat, line_needs}
 use Rattle.arc_core.specs.CacheState.{CacheState}
 use Rattle.arc_core.specs.History.{Entry, Replays}
 use Rattle.arc_core.specs.PlainRequest.{PlainRequest}
 use Rattle.arc_core.specs.ReplyText.{reply_text, word_line}
-use Rattle.arc_core.specs.SessionText.{TellsUnit, Tells}
+use Rattle.arc_core.specs.SessionText.{Tells}
 use Rattle.frame_reader.specs.Progress.{Progress, StandsFor, ready_unit}
-use Rattle.arcus_tool.specs.Output.{IsSent, IsSentInPart, HasCause, Sends}
+use Rattle.arcus_tool.specs.Output.{IsSentInPart, HasCause, Sends}
 use Rattle.arcus_tool.specs.declared.output.Unsent.{Unsent}
-use Rattle.arcus_tool.specs.declared.output.Unsent.TheVariants as unsent
 use Rattle.arcus_tool.specs.declared.units.Stop.{Stop}
 use Rattle.arcus_tool.specs.declared.units.Stop.TheVariants as stop
 

@@ -1,4 +1,4 @@
-use Rattle.std.proofs.Common.{◌≡◌, ◌∙◌, sym, take, drop}
+use Rattle.std.proofs.Common.{◌∙◌, sym, take, drop}
 use Rattle.std.proofs.lemmas.List.{take-append-drop}
 use Rattle.arcus_tool.proofs.Sending.{gathered_sent, take_rest}
 use Rattle.arcus_tool.proofs.output.send.Goals as goal

@@ -1,7 +1,7 @@
-use Rattle.std.proofs.Common.{◌≡◌, ◌≤◌, ◌++◌, ◌∙◌, ◌^◌, ◌<◌, ap, sym, subst, take, length, length-append, arith}
+use Rattle.std.proofs.Common.{◌++◌, sym, subst, take, length-append, arith}
 use Rattle.std.proofs.lemmas.List.{length-take-le}
 use Rattle.arcus_tool.specs.Handling.{Stops, BrokeOff}
-use Rattle.arcus_tool.specs.Session.{outside, IsSession, start_of}
+use Rattle.arcus_tool.specs.Session.{IsSession, start_of}
 use Rattle.arcus_tool.proofs.Ending.{goes_more, ran_on, over_at_long_line, over_at_write_fault, over_without_memory, over_at_read_fault, over_at_end, holds_rest}
 use Rattle.arcus_tool.proofs.sessions.pull_once.Goals as goal
 

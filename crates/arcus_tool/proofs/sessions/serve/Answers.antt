@@ -1,4 +1,4 @@
-use Rattle.std.proofs.Common.{◌≡◌, ◌+◌, ◌≤◌, ◌^◌, ◌++◌, ◌∙◌, ap, sym, refl, [], take, length, length-take, length-append, arith}
+use Rattle.std.proofs.Common.{◌≡◌, ◌+◌, ◌≤◌, ◌^◌, ◌++◌, refl, [], take, length, length-take, length-append, arith}
 use Rattle.arcus_tool.proofs.Beginning.{ran_nowhere}
 use Rattle.arcus_tool.proofs.Ending.{over_at_limit, holds_rest}
 use Rattle.arcus_tool.proofs.sessions.serve.Goals as goal

@@ -1,4 +1,4 @@
-use Rattle.std.proofs.Common.{◌≡◌, ◌++◌, ◌∷◌, [], ◌∙◌, List, ℕ, append_assoc, ap, sym, refl}
+use Rattle.std.proofs.Common.{◌≡◌, ◌++◌, ◌∙◌, List, ℕ, append_assoc, ap, refl}
 use Rattle.std.proofs.lemmas.Result.{err_from_is_err_and}
 use Rattle.arc_core.specs.ReplyText.{row_head, row_text, line_end}
 use Rattle.arcus_tool.proofs.Sending.{gathered_more, cut_off_since, puts_since}

@@ -1,4 +1,4 @@
-use Rattle.std.proofs.Common.{◌≡◌, ◌++◌, ◌∙◌, ◌<◌, suc, take, drop, subst, length, arith}
+use Rattle.std.proofs.Common.{◌++◌, ◌∙◌, ◌<◌, suc, take, drop, subst, length}
 use Rattle.std.specs.List.{flat_map}
 use Rattle.std.proofs.lemmas.Result.{err_from_is_err_and}
 use Rattle.arc_core.specs.ReplyText.{row_text}

@@ -1,6 +1,6 @@
-use Rattle.std.proofs.Common.{◌≡◌, ◌++◌, [], ap, sym, subst, drop, length}
+use Rattle.std.proofs.Common.{subst}
 use Rattle.std.proofs.lemmas.Result.{err_from_is_err_and}
-use Rattle.arcus_tool.specs.Handling.{Stand, GoesOn}
+use Rattle.arcus_tool.specs.Handling.{GoesOn}
 use Rattle.arcus_tool.proofs.Sending.{take_rest, is_empty_list}
 use Rattle.arcus_tool.proofs.units.take_piece.Goals as goal
 

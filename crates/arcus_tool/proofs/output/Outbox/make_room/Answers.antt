@@ -1,4 +1,4 @@
-use Rattle.std.proofs.Common.{◌≡◌, sym, subst}
+use Rattle.std.proofs.Common.{sym, subst}
 use Rattle.std.proofs.lemmas.Result.{err_from_is_err_and}
 use Rattle.arcus_tool.specs.Output.{IsGathered}
 use Rattle.arcus_tool.proofs.Sending.{flushed, flushed_in_part}
