@@ -50,4 +50,5 @@ never_began opening before = record {
   seconds = refl;
   own = tt;
   ends = record { refused = inl refl; sent = record { front = []; back = []; parts = refl; sent_is = sym (sent_nothing before.sent) } };
+  counts = (refl, refl);
 }

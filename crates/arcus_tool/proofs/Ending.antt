@@ -12,7 +12,7 @@ use Rattle.arcus_tool.specs.Handling.{Stand, Went, GoesOn, Stops, BrokeOff, None
 use Rattle.arcus_tool.specs.declared.output.Unsent.TheVariants as unsent
 use Rattle.arcus_tool.specs.declared.units.Stop.TheVariants as stop
 use Rattle.arcus_tool.specs.declared.status.Status.TheVariants as status
-use Rattle.arcus_tool.specs.Session.{Outside, outside, IsSession, RanSoFar, start_of, status_at_end, Ends, ReadToEnd, SentWhole}
+use Rattle.arcus_tool.specs.Session.{Outside, outside, IsSession, RanSoFar, start_of, status_at_end, Ends, ReadToEnd, SentWhole, CountsOnly, SameReads, SameWrites, SameRefusals}
 use Rattle.arcus_tool.proofs.Histories.{spans_more}
 use Rattle.arcus_tool.proofs.Going.{went_by}
 
@@ -59,9 +59,9 @@ module _ (opening : CacheState) (before : Outside) (at : Stand) (left left' : Op
   ran_on to progress' piece came same goes = record { took = took_more piece came; no_fault = same ∙ ran.no_fault; goes = goes }
 
   -- the session is over at a line that is too long
-  pub over_at_long_line : (to : Stand) (piece : List ℕ) → left ≡ first_then piece left' → length (taken ++ piece) ≤ 2 ^ 40
+  pub over_at_long_line : (to : Stand) (piece : List ℕ) → left ≡ first_then piece left' → faults' ≡ faults → length (taken ++ piece) ≤ 2 ^ 40
       → Stops (start_of opening before) to (taken ++ piece) stop.LineTooLong → IsSession opening before (outside left' faults' to.sent to.faults to.refusals to.coming) status.LineTooLong
-  over_at_long_line to piece came few stops =
+  over_at_long_line to piece came same few stops =
       let went = stops.2 in
       record {
         taken = taken ++ piece;
@@ -77,12 +77,13 @@ module _ (opening : CacheState) (before : Outside) (at : Stand) (left left' : Op
         seconds = went.executed.seconds;
         own = went.executed.own;
         ends = record { too_long = stops.3; few = few; sent = record { whole = went.sent; no_fault = went.same_faults } };
+        counts = (same ∙ ran.no_fault, went.same_faults, went.same_refusals);
       }
 
   -- the session is over at a write fault
-  pub over_at_write_fault : (to : Stand) (piece : List ℕ) → left ≡ first_then piece left'
+  pub over_at_write_fault : (to : Stand) (piece : List ℕ) → left ≡ first_then piece left' → faults' ≡ faults
       → BrokeOff (start_of opening before) to (taken ++ piece) unsent.Failed → IsSession opening before (outside left' faults' to.sent to.faults to.refusals to.coming) status.WriteFault
-  over_at_write_fault to piece came broke = record {
+  over_at_write_fault to piece came same broke = record {
     taken = taken ++ piece;
     units = broke.units;
     tail = broke.tail;
@@ -96,12 +97,13 @@ module _ (opening : CacheState) (before : Outside) (at : Stand) (left left' : Op
     seconds = broke.executed.seconds;
     own = broke.executed.own;
     ends = record { fault = broke.has_cause.0; sent = broke.sent };
+    counts = (same ∙ ran.no_fault, broke.has_cause.1);
   }
 
   -- the session is over where the sink was refused memory
-  pub over_without_memory : (to : Stand) (piece : List ℕ) → left ≡ first_then piece left'
+  pub over_without_memory : (to : Stand) (piece : List ℕ) → left ≡ first_then piece left' → faults' ≡ faults
       → BrokeOff (start_of opening before) to (taken ++ piece) unsent.NoMemory → IsSession opening before (outside left' faults' to.sent to.faults to.refusals to.coming) status.NoMemory
-  over_without_memory to piece came broke = record {
+  over_without_memory to piece came same broke = record {
     taken = taken ++ piece;
     units = broke.units;
     tail = broke.tail;
@@ -115,6 +117,7 @@ module _ (opening : CacheState) (before : Outside) (at : Stand) (left left' : Op
     seconds = broke.executed.seconds;
     own = broke.executed.own;
     ends = record { refused = inr broke.has_cause.1; sent = broke.sent };
+    counts = (same ∙ ran.no_fault, broke.has_cause.0);
   }
 
   -- what was taken is cut into the units that were handled and an unfinished tail
@@ -148,6 +151,7 @@ module _ (opening : CacheState) (before : Outside) (at : Stand) (left left' : Op
           no_more = cut_here rest;
           sent = record { whole = went.sent; no_fault = went.same_faults };
         };
+        counts = (went.same_faults, went.same_refusals);
       }
 
 -- how a session ends where the source has ended, by the bytes that came of an unfinished unit
@@ -155,6 +159,11 @@ ends_at : (before after : Outside) (taken : List ℕ) (units : List Whole) (tail
     → Ends (status_at_end tail) before after taken units tail text
 ends_at before after taken units [] text read last sent = record { read = read; behind_a_unit = refl; no_more = last; sent = sent }
 ends_at before after taken units (byte ∷ tail) text read last sent = record { read = read; within_a_unit = omega arith; came = refl; no_more = last; sent = sent }
+
+-- no count rose where the source has ended
+counts_at : (before after : Outside) (tail : List ℕ) → SameReads before after → SameWrites before after → SameRefusals before after → CountsOnly (status_at_end tail) before after
+counts_at before after [] reads writes refusals = (reads, writes, refusals)
+counts_at before after (byte ∷ tail) reads writes refusals = (reads, writes, refusals)
 
 -- the session is over where the source has ended
 pub over_at_end : (opening : CacheState) (before : Outside) (at : Stand) (left left' : Option (List ℕ)) (faults faults' : ℕ) (progress : Progress) (taken : List ℕ) (ran : RanSoFar opening before at left faults progress taken)
@@ -183,6 +192,7 @@ over_at_end opening before at left left' faults faults' progress taken ran came 
       seconds = went.executed.seconds;
       own = went.executed.own;
       ends = ends_at before after taken ran.goes.0 ran.goes.1 went.text read (last_rest line_needs ran.goes.0 ran.goes.1 ran.goes.4 (rest ran.goes.1 ran.goes.3)) sent;
+      counts = counts_at before after ran.goes.1 (came.same_faults ∙ ran.no_fault) went.same_faults went.same_refusals;
     }
 
 -- the session is over at 2^40 bytes
@@ -209,6 +219,7 @@ over_at_limit opening before at left faults progress taken ran all rest =
         no_more = last_rest line_needs ran.goes.0 ran.goes.1 ran.goes.4 (rest ran.goes.1 ran.goes.3);
         sent = record { whole = went.sent; no_fault = went.same_faults };
       };
+      counts = (ran.no_fault, went.same_faults, went.same_refusals);
     }
 
 -- a reader that has no unit ready holds an unfinished one

@@ -102,6 +102,23 @@ Ends status.NoMemory before after taken units tail text = EndsWithoutMemory befo
 -- a session does not look at words
 Ends (status.BadWords place) before after taken units tail text = ⊥
 
+-- no further pull failed, no further push failed, the sink was refused no further memory
+abbrev pub SameReads : Outside → Outside → Type 0
+SameReads before after = after.read_faults ≡ before.read_faults
+
+abbrev pub SameWrites : Outside → Outside → Type 0
+SameWrites before after = after.write_faults ≡ before.write_faults
+
+abbrev pub SameRefusals : Outside → Outside → Type 0
+SameRefusals before after = after.refusals ≡ before.refusals
+
+-- No count rose but the one that the status tells.
+abbrev pub CountsOnly : Status → Outside → Outside → Type 0
+CountsOnly status.ReadFault before after = SameWrites before after × SameRefusals before after
+CountsOnly status.WriteFault before after = SameReads before after × SameRefusals before after
+CountsOnly status.NoMemory before after = SameReads before after × SameWrites before after
+CountsOnly other before after = SameReads before after × SameWrites before after × SameRefusals before after
+
 -- THE SESSION. From this state, between these two moments of the outside, a session ran and ended with this status:
 pub record IsSession (opening : CacheState) (before after : Outside) (ended : Status) : Type 0 where
   -- the bytes that it took from the source
@@ -128,6 +145,8 @@ pub record IsSession (opening : CacheState) (before after : Outside) (ended : St
   pub own : AllByRecursion IsOwn entries
   -- why the session ended, and what was sent of the text
   pub ends : Ends ended before after taken units tail text
+  -- no fault and no refusal is passed over
+  pub counts : CountsOnly ended before after
 
 -- where a session begins
 abbrev pub start_of : CacheState → Outside → Stand
