@@ -1,5 +1,5 @@
-//! A shelf of parcels, worked by hand: a parcel weighs its size and a byte for each byte of its key.
-ghost use Rattle.std.specs.Prelude.{◌≡◌, ◌+◌, Some, None, length, min};
+//! Shelves of parcels, worked by hand: a parcel weighs its size and a byte for each byte of its key behind the first.
+ghost use Rattle.std.specs.Prelude.{◌≡◌, ◌+◌, ◌-◌, Some, None, length, min};
 ghost use Rattle.arc_core.specs.Places.{found};
 
 use crate::{Room, Shelf, Weighs};
@@ -13,10 +13,10 @@ struct Parcel {
 }
 
 impl Weighs for Parcel {
-    ghost weigh = { λ key parcel. parcel.size + min (length key) 16000 };
+    ghost weigh = { λ key parcel. parcel.size + (min (length key) 16000 - 1) };
 
     fn weight(&self, key: &[u8]) -> u64 {
-        u64::from(self.size) + key.len().min(16_000) as u64
+        u64::from(self.size) + (key.len().min(16_000) as u64).saturating_sub(1)
     }
 }
 
@@ -73,11 +73,137 @@ fn sizes(shelf: &Shelf<Parcel>) -> [Option<u32>; 3] {
     [size(b"a"), size(b"b"), size(b"c")]
 }
 
+// What stands on a shelf: keys with their sizes and sides, the least recently used first.
+type Standing = &'static [(&'static [u8; 1], u32, bool)];
+
+// What room is under a key for so many bytes more.
+type Asked = &'static [(&'static [u8; 1], i64, Room)];
+
+// Shelves of 0 to 4 items with a limit of 100 bytes, every key on them and one that is not, and the bytes around each
+// place where the answer changes. A key's own place makes no room for it, and a sticky item makes none for any.
+const ROOMS: [(Standing, Asked); 5] = [
+    (
+        &[],
+        &[
+            (b"a", -1, Room::Fits(0)),
+            (b"a", 0, Room::Fits(0)),
+            (b"a", 100, Room::Fits(0)),
+            (b"a", 101, Room::Nothing),
+        ],
+    ),
+    // 90 bytes are spare.
+    (
+        &[(b"a", 10, false)],
+        &[
+            (b"b", 90, Room::Fits(0)),
+            (b"b", 91, Room::Fits(1)),
+            (b"b", 100, Room::Fits(1)),
+            (b"b", 101, Room::Nothing),
+            (b"a", 90, Room::Fits(0)),
+            (b"a", 91, Room::Nothing),
+        ],
+    ),
+    // 70 bytes are spare.
+    (
+        &[(b"a", 10, false), (b"b", 20, false)],
+        &[
+            (b"c", 70, Room::Fits(0)),
+            (b"c", 71, Room::Fits(1)),
+            (b"c", 80, Room::Fits(1)),
+            (b"c", 81, Room::Fits(2)),
+            (b"c", 100, Room::Fits(2)),
+            (b"c", 101, Room::Nothing),
+            (b"a", 70, Room::Fits(0)),
+            (b"a", 71, Room::Fits(1)),
+            (b"a", 90, Room::Fits(1)),
+            (b"a", 91, Room::Nothing),
+            (b"b", 70, Room::Fits(0)),
+            (b"b", 71, Room::Fits(1)),
+            (b"b", 80, Room::Fits(1)),
+            (b"b", 81, Room::Nothing),
+        ],
+    ),
+    // 70 bytes are spare; the newest item has no weight.
+    (
+        &[(b"a", 10, false), (b"b", 20, false), (b"c", 0, false)],
+        &[
+            (b"d", 70, Room::Fits(0)),
+            (b"d", 71, Room::Fits(1)),
+            (b"d", 80, Room::Fits(1)),
+            (b"d", 81, Room::Fits(2)),
+            (b"d", 100, Room::Fits(2)),
+            (b"d", 101, Room::Nothing),
+            (b"a", 71, Room::Fits(1)),
+            (b"a", 90, Room::Fits(1)),
+            (b"a", 91, Room::Nothing),
+            (b"b", 71, Room::Fits(1)),
+            (b"b", 80, Room::Fits(1)),
+            (b"b", 81, Room::Nothing),
+            (b"c", 71, Room::Fits(1)),
+            (b"c", 81, Room::Fits(2)),
+            (b"c", 100, Room::Fits(2)),
+            (b"c", 101, Room::Nothing),
+        ],
+    ),
+    // 15 bytes are spare; s is sticky.
+    (
+        &[
+            (b"a", 10, false),
+            (b"b", 20, false),
+            (b"s", 25, true),
+            (b"c", 30, false),
+        ],
+        &[
+            (b"d", 15, Room::Fits(0)),
+            (b"d", 16, Room::Fits(1)),
+            (b"d", 25, Room::Fits(1)),
+            (b"d", 26, Room::Fits(2)),
+            (b"d", 45, Room::Fits(2)),
+            (b"d", 46, Room::Fits(3)),
+            (b"d", 75, Room::Fits(3)),
+            (b"d", 76, Room::Nothing),
+            (b"a", 15, Room::Fits(0)),
+            (b"a", 35, Room::Fits(1)),
+            (b"a", 36, Room::Fits(2)),
+            (b"a", 65, Room::Fits(2)),
+            (b"a", 66, Room::Nothing),
+            (b"b", 25, Room::Fits(1)),
+            (b"b", 26, Room::Fits(2)),
+            (b"b", 55, Room::Fits(2)),
+            (b"b", 56, Room::Nothing),
+            (b"c", 25, Room::Fits(1)),
+            (b"c", 26, Room::Fits(2)),
+            (b"c", 45, Room::Fits(2)),
+            (b"c", 46, Room::Nothing),
+            (b"s", 15, Room::Fits(0)),
+            (b"s", 46, Room::Fits(3)),
+            (b"s", 75, Room::Fits(3)),
+            (b"s", 76, Room::Nothing),
+        ],
+    ),
+];
+
+#[test]
+fn tells_room_for_every_key(rt: HostRuntime) -> Result<(), Fail> {
+    for (standing, asked) in ROOMS {
+        let mut shelf = Shelf::new(rt.alloc(), 100)?;
+        for (key, size, sticky) in standing {
+            let parcel = Parcel { size: *size };
+            let room = put(&mut shelf, rt.alloc(), KeyRef::read(*key)?, parcel, *sticky)?;
+            assert_eq!(rt; room, Room::Fits(0));
+        }
+        for (key, extra, room) in asked {
+            assert_eq!(rt; shelf.room(*key, *extra), *room, "for {extra}");
+        }
+    }
+    Ok(())
+}
+
 #[test]
 fn accounts_and_evicts(rt: HostRuntime) -> Result<(), Fail> {
     let mut shelf = Shelf::new(rt.alloc(), 100)?;
     // Weights 10, 20 and 30; c is the most recently used.
-    for (key, size) in [(b"a", 9), (b"b", 19), (b"c", 29)] {
+    for (key, size) in [(b"a", 10), (b"b", 20), (b"c", 30)] {
         assert_eq!(rt;
             put(
                 &mut shelf,
@@ -107,13 +233,13 @@ fn accounts_and_evicts(rt: HostRuntime) -> Result<(), Fail> {
         assert_eq!(rt; shelf.room(key, extra), room, "for {extra}");
     }
     assert_eq!(rt; make_room(&mut shelf, b"b", 41), Room::Fits(1));
-    assert_eq!(rt; sizes(&shelf), [Some(9), Some(19), None]);
+    assert_eq!(rt; sizes(&shelf), [Some(10), Some(20), None]);
     assert_eq!(rt; (shelf.total(), shelf.count()), (30, 2));
 
     // The item under a becomes heavier, and then sticky: it is not evicted any more.
     assert_eq!(rt;
-        replace(&mut shelf, b"a", Parcel { size: 39 }),
-        Some(Parcel { size: 9 })
+        replace(&mut shelf, b"a", Parcel { size: 40 }),
+        Some(Parcel { size: 10 })
     );
     assert_eq!(rt; shelf.total(), 60);
     assert_eq!(rt;
@@ -121,7 +247,7 @@ fn accounts_and_evicts(rt: HostRuntime) -> Result<(), Fail> {
             &mut shelf,
             rt.alloc(),
             KeyRef::of(b"a"),
-            Parcel { size: 39 },
+            Parcel { size: 40 },
             true
         )?,
         Room::Fits(0)
@@ -133,14 +259,14 @@ fn accounts_and_evicts(rt: HostRuntime) -> Result<(), Fail> {
             &mut shelf,
             rt.alloc(),
             KeyRef::of(b"d"),
-            Parcel { size: 40 },
+            Parcel { size: 41 },
             false
         )?,
         Room::Fits(1)
     );
     assert_eq!(rt; shelf.count(), 2);
 
-    assert_eq!(rt; shelf.remove(b"b"), Some(Parcel { size: 19 }));
+    assert_eq!(rt; shelf.remove(b"b"), Some(Parcel { size: 20 }));
     assert_eq!(rt; (shelf.total(), shelf.count()), (40, 1));
     shelf.clear();
     assert_eq!(rt; (shelf.total(), shelf.count()), (0, 0));
