@@ -1,6 +1,6 @@
 //! The cache: the machine's state in memory.
 ghost use Rattle.std.specs.Prelude.{◌≡◌, ◌+◌, ◌*◌, ◌^◌, ◌<◌, ◌≤◌, ℕ, length, IfOk, ℤ};
-ghost use Rattle.arc_core.specs.CacheState.{CacheState, opening_state, accounted};
+ghost use Rattle.arc_core.specs.CacheState.{CacheState, opening_state, accounted, IsState};
 ghost use Rattle.arc_core.specs.Places.{count_of};
 ghost use Rattle.arc_core.specs.Step.{next_unique};
 ghost use Rattle.arc_core.specs.ReplyText.{reply_text};
@@ -28,7 +28,7 @@ pub struct Cache {
 }
 
 impl Model for Cache {
-    ghost use Rattle.std.specs.Prelude.{◌≤◌};
+    ghost use Rattle.std.specs.Prelude.{◌≤◌, ◌<◌, ◌^◌};
     ghost use Rattle.arc_core.specs.CacheState.{CacheState};
     ghost use Rattle.cache_engine.specs.Held.{state_at, shelf_of, IsCounted};
     ghost use Rattle.std.specs.FinMap as finite;
@@ -40,7 +40,7 @@ impl Model for Cache {
 
     ghost view = { λ cache. state_at (shelf_of cache.all.items) cache.latest cache.counter cache.limit };
 
-    ghost invariant = { λ cache. IsCounted cache.total cache.limit (shelf_of cache.all.items) × (cache.limit ≤ 4294967296) };
+    ghost invariant = { λ cache. IsCounted cache.total cache.limit (shelf_of cache.all.items) × (cache.limit ≤ 4294967296) × (cache.latest < 2 ^ 32) };
 }
 
 impl Cache {
@@ -62,6 +62,8 @@ impl Cache {
     pub fn accounted(&self) -> u64
         ensures sum { result ≡ accounted self.now }
         ensures within { result ≤ self.now.places.limit }
+        // The held items keep their rules, and no key is held twice.
+        ensures rules { IsState self.now }
     {
         self.total
     }
@@ -73,7 +75,7 @@ impl Cache {
         self.all.len() as u64
     }
 
-    // Stores a value under the key: takes the memory first, then asks for room, then commits.
+    // Stores a value under the key. Nothing changes before the memory was taken and the room was found.
     fn store(&mut self, now: u32, key: &KeyRef<'_>, flags: u32, bytes: &[u8]) -> Reply
         requires { length bytes.now ≤ 131070 }
         ensures { Stores self.old now key.now flags bytes.now result self.new }
