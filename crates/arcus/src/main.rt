@@ -1,22 +1,35 @@
 //! The program: gives the process's words, input, output and clock to the top call, and tells how it ended.
 #![tactic(auto)]
 
+ghost use Rattle.std.specs.Prelude.{IfErr};
+ghost use Rattle.arcus.specs.Refusals.{IsRefusal};
+
 use arcus_tool::{Status, StdSink, StdSource, WallClock, World, run};
-use std::alloc::AllocError;
 use std::io::{self, ErrorKind};
 use std::process::ExitCode;
 
-/// The words after the program's name. A word that is no text is no word that the program knows.
-fn words(rt: &HostRuntime) -> Result<Vec<String>, Status> {
-    let no_memory = |_: AllocError| Status::NoMemory;
-    std::env::args(rt)
-        .map_err(|error| match error.kind() {
-            ErrorKind::OutOfMemory => Status::NoMemory,
-            _ => Status::BadWords(0),
-        })?
-        .skip(1)
-        .collect(rt.alloc())
-        .map_err(no_memory)
+// The words after the program's name. `BadWords(0)` comes where a word is no text, `NoMemory` where memory was refused.
+fn words(rt: &HostRuntime) -> Result<Vec<String>, Status>
+    ensures { IfErr result IsRefusal }
+{
+    let args = match std::env::args(rt) {
+        Ok(args) => args,
+        Err(error) => return Err(refusal(error.kind())),
+    };
+    match args.skip(1).collect(rt.alloc()) {
+        Ok(words) => Ok(words),
+        Err(_) => Err(Status::NoMemory),
+    }
+}
+
+// How the program ends where its words cannot be had, by the kind of the fault.
+fn refusal(kind: ErrorKind) -> Status
+    ensures { IsRefusal result }
+{
+    match kind {
+        ErrorKind::OutOfMemory => Status::NoMemory,
+        _ => Status::BadWords(0),
+    }
 }
 
 fn status(rt: &HostRuntime) -> Status {

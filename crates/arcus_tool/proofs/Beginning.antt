@@ -1,5 +1,5 @@
 -- Where a session begins, and one that ends there.
-use Rattle.std.proofs.Common.{◌≡◌, ℕ, List, [], Option, Some, None, refl, sym, inl}
+use Rattle.std.proofs.Common.{◌≡◌, ℕ, List, [], Option, Some, None, refl, sym, inl, arith}
 use Rattle.arc_core.specs.Outside.{first_then}
 use Rattle.arc_core.specs.Grammar.{line_needs}
 use Rattle.arc_core.specs.CacheState.{CacheState}
@@ -49,6 +49,6 @@ never_began opening before = record {
   legal = refl;
   seconds = refl;
   own = tt;
-  ends = record { refused = inl refl; sent = record { front = []; back = []; parts = refl; sent_is = sym (sent_nothing before.sent) } };
+  ends = record { refused = inl refl; few = omega arith; sent = record { front = []; back = []; parts = refl; sent_is = sym (sent_nothing before.sent) } };
   counts = (refl, refl);
 }

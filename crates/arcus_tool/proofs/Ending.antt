@@ -81,9 +81,9 @@ module _ (opening : CacheState) (before : Outside) (at : Stand) (left left' : Op
       }
 
   -- the session is over at a write fault
-  pub over_at_write_fault : (to : Stand) (piece : List ℕ) → left ≡ first_then piece left' → faults' ≡ faults
+  pub over_at_write_fault : (to : Stand) (piece : List ℕ) → left ≡ first_then piece left' → faults' ≡ faults → length (taken ++ piece) ≤ 2 ^ 40
       → BrokeOff (start_of opening before) to (taken ++ piece) unsent.Failed → IsSession opening before (outside left' faults' to.sent to.faults to.refusals to.coming) status.WriteFault
-  over_at_write_fault to piece came same broke = record {
+  over_at_write_fault to piece came same few broke = record {
     taken = taken ++ piece;
     units = broke.units;
     tail = broke.tail;
@@ -96,14 +96,14 @@ module _ (opening : CacheState) (before : Outside) (at : Stand) (left left' : Op
     legal = broke.executed.legal;
     seconds = broke.executed.seconds;
     own = broke.executed.own;
-    ends = record { fault = broke.has_cause.0; sent = broke.sent };
+    ends = record { fault = broke.has_cause.0; few = few; sent = broke.sent };
     counts = (same ∙ ran.no_fault, broke.has_cause.1);
   }
 
   -- the session is over where the sink was refused memory
-  pub over_without_memory : (to : Stand) (piece : List ℕ) → left ≡ first_then piece left' → faults' ≡ faults
+  pub over_without_memory : (to : Stand) (piece : List ℕ) → left ≡ first_then piece left' → faults' ≡ faults → length (taken ++ piece) ≤ 2 ^ 40
       → BrokeOff (start_of opening before) to (taken ++ piece) unsent.NoMemory → IsSession opening before (outside left' faults' to.sent to.faults to.refusals to.coming) status.NoMemory
-  over_without_memory to piece came same broke = record {
+  over_without_memory to piece came same few broke = record {
     taken = taken ++ piece;
     units = broke.units;
     tail = broke.tail;
@@ -116,7 +116,7 @@ module _ (opening : CacheState) (before : Outside) (at : Stand) (left left' : Op
     legal = broke.executed.legal;
     seconds = broke.executed.seconds;
     own = broke.executed.own;
-    ends = record { refused = inr broke.has_cause.1; sent = broke.sent };
+    ends = record { refused = inr broke.has_cause.1; few = few; sent = broke.sent };
     counts = (same ∙ ran.no_fault, broke.has_cause.0);
   }
 
@@ -148,6 +148,7 @@ module _ (opening : CacheState) (before : Outside) (at : Stand) (left left' : Op
         ends = record {
           fault = subst (λ f. Rose f faults') ran.no_fault failed.rose;
           short = short;
+          none_too_long = ran.goes.4;
           no_more = cut_here rest;
           sent = record { whole = went.sent; no_fault = went.same_faults };
         };
@@ -155,10 +156,10 @@ module _ (opening : CacheState) (before : Outside) (at : Stand) (left left' : Op
       }
 
 -- how a session ends where the source has ended, by the bytes that came of an unfinished unit
-ends_at : (before after : Outside) (taken : List ℕ) (units : List Whole) (tail text : List ℕ) → ReadToEnd before after taken → IsLast line_needs units tail → SentWhole before after text
+ends_at : (before after : Outside) (taken : List ℕ) (units : List Whole) (tail text : List ℕ) → ReadToEnd before after taken → NoneTooLong units → IsLast line_needs units tail → SentWhole before after text
     → Ends (status_at_end tail) before after taken units tail text
-ends_at before after taken units [] text read last sent = record { read = read; behind_a_unit = refl; no_more = last; sent = sent }
-ends_at before after taken units (byte ∷ tail) text read last sent = record { read = read; within_a_unit = omega arith; came = refl; no_more = last; sent = sent }
+ends_at before after taken units [] text read none last sent = record { read = read; behind_a_unit = refl; none_too_long = none; no_more = last; sent = sent }
+ends_at before after taken units (byte ∷ tail) text read none last sent = record { read = read; within_a_unit = omega arith; came = refl; none_too_long = none; no_more = last; sent = sent }
 
 -- no count rose where the source has ended
 counts_at : (before after : Outside) (tail : List ℕ) → SameReads before after → SameWrites before after → SameRefusals before after → CountsOnly (status_at_end tail) before after
@@ -191,7 +192,7 @@ over_at_end opening before at left left' faults faults' progress taken ran came 
       legal = went.executed.legal;
       seconds = went.executed.seconds;
       own = went.executed.own;
-      ends = ends_at before after taken ran.goes.0 ran.goes.1 went.text read (last_rest line_needs ran.goes.0 ran.goes.1 ran.goes.4 (rest ran.goes.1 ran.goes.3)) sent;
+      ends = ends_at before after taken ran.goes.0 ran.goes.1 went.text read ran.goes.4 (last_rest line_needs ran.goes.0 ran.goes.1 ran.goes.4 (rest ran.goes.1 ran.goes.3)) sent;
       counts = counts_at before after ran.goes.1 (came.same_faults ∙ ran.no_fault) went.same_faults went.same_refusals;
     }
 
@@ -216,6 +217,7 @@ over_at_limit opening before at left faults progress taken ran all rest =
       own = went.executed.own;
       ends = record {
         all_taken = all;
+        none_too_long = ran.goes.4;
         no_more = last_rest line_needs ran.goes.0 ran.goes.1 ran.goes.4 (rest ran.goes.1 ran.goes.3);
         sent = record { whole = went.sent; no_fault = went.same_faults };
       };

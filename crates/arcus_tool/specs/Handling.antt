@@ -1,4 +1,5 @@
--- How the units of a session are handled, one after another.
+-- How the units of a session are handled, one after another. The statement on sessions cites `TicksThrough`, `IsOwn`,
+-- `NoneTooLong` and `EndsTooLong`; all else is for the functions within.
 use Rattle.std.specs.Prelude.{◌≡◌, ◌⊎◌, ℕ, ◌≤◌, List, [], ◌∷◌, ◌++◌, length, drop, Option, None, Result, Ok, Err, true}
 use Rattle.std.specs.List.{AllByRecursion}
 use Rattle.arc_core.specs.declared.outside.Need.TheVariants as need

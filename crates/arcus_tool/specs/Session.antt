@@ -9,13 +9,15 @@ use Rattle.arc_core.specs.History.{Entry, Replays}
 use Rattle.arc_core.specs.SessionText.{Tells}
 use Rattle.frame_reader.specs.Progress.{Progress, StandsFor, ready_unit}
 use Rattle.arcus_tool.specs.Output.{IsSentInPart}
-use Rattle.arcus_tool.specs.Handling.{Stand, stand, TicksThrough, IsOwn, GoesOn, EndsTooLong, IsBetweenUnits}
+use Rattle.arcus_tool.specs.Handling.{Stand, stand, TicksThrough, IsOwn, GoesOn, NoneTooLong, EndsTooLong, IsBetweenUnits}
 use Rattle.arcus_tool.specs.declared.status.Status.{Status}
 use Rattle.arcus_tool.specs.declared.status.Status.TheVariants as status
 use Rattle.arcus_tool.specs.declared.sessions.Turn.{Turn}
 use Rattle.arcus_tool.specs.declared.sessions.Turn.TheVariants as turn
 
--- What the outside of a session tells at one moment: the bytes that are left of the source, the bytes that the sink
+-- A field that is data, in a record whose other fields are facts, means: there is such a value.
+
+-- A snapshot. What the outside of a session tells at one moment: the bytes that are left of the source, the bytes that the sink
 -- was sent, the clock's seconds to come, each where it is told, and the counts of faults and refusals.
 pub record Outside : Type 0 where
   pub left : Option (List ℕ)
@@ -29,7 +31,8 @@ abbrev pub outside : Option (List ℕ) → ℕ → Option (List ℕ) → ℕ →
 outside left read_faults sent write_faults refusals coming =
     record { left = left; read_faults = read_faults; sent = sent; write_faults = write_faults; refusals = refusals; coming = coming }
 
--- whether an open group of units at the session's end is answered too
+-- whether an open group of units at the session's end is answered too (each unit is a group by itself as yet, so that
+-- this has no effect)
 abbrev pub is_closed : Status → Bool
 is_closed status.ReadFault = false
 is_closed status.LongInput = false
@@ -50,6 +53,7 @@ pub record ReadToEnd (before after : Outside) (taken : List ℕ) : Type 0 where
 pub record EndsDone (before after : Outside) (taken : List ℕ) (units : List Whole) (tail text : List ℕ) : Type 0 where
   pub read : ReadToEnd before after taken
   pub behind_a_unit : tail ≡ []
+  pub none_too_long : NoneTooLong units
   pub no_more : IsLast line_needs units tail
   pub sent : SentWhole before after text
 
@@ -58,6 +62,7 @@ pub record EndsCut (rest : ℕ) (before after : Outside) (taken : List ℕ) (uni
   pub read : ReadToEnd before after taken
   pub within_a_unit : 0 < rest
   pub came : length tail ≡ rest
+  pub none_too_long : NoneTooLong units
   pub no_more : IsLast line_needs units tail
   pub sent : SentWhole before after text
 
@@ -65,12 +70,14 @@ pub record EndsCut (rest : ℕ) (before after : Outside) (taken : List ℕ) (uni
 pub record EndsReadFault (before after : Outside) (taken : List ℕ) (units : List Whole) (tail text : List ℕ) : Type 0 where
   pub fault : Rose before.read_faults after.read_faults
   pub short : length taken < 2 ^ 40
+  pub none_too_long : NoneTooLong units
   pub no_more : IsLast line_needs units tail
   pub sent : SentWhole before after text
 
 -- 2^40 bytes were taken, none more are, and all was sent.
 pub record EndsLong (before after : Outside) (taken : List ℕ) (units : List Whole) (tail text : List ℕ) : Type 0 where
   pub all_taken : length taken ≡ 2 ^ 40
+  pub none_too_long : NoneTooLong units
   pub no_more : IsLast line_needs units tail
   pub sent : SentWhole before after text
 
@@ -81,13 +88,16 @@ pub record EndsAtLongLine (before after : Outside) (taken : List ℕ) (units : L
   pub sent : SentWhole before after text
 
 -- A push failed, which the sink has counted: a front of the text was sent.
-pub record EndsWriteFault (before after : Outside) (text : List ℕ) : Type 0 where
+pub record EndsWriteFault (before after : Outside) (taken text : List ℕ) : Type 0 where
   pub fault : Rose before.write_faults after.write_faults
+  pub few : length taken ≤ 2 ^ 40
   pub sent : IsSentInPart before.sent after.sent text
 
--- Memory was refused, before any byte was taken, or to the sink, which has counted it: a front of the text was sent.
+-- No byte was taken yet, or the sink was refused memory, which it has counted: a front of the text was sent. (That memory
+-- was short at the start is not said: it may be refused at any time.)
 pub record EndsWithoutMemory (before after : Outside) (taken text : List ℕ) : Type 0 where
   pub refused : (taken ≡ []) ⊎ Rose before.refusals after.refusals
+  pub few : length taken ≤ 2 ^ 40
   pub sent : IsSentInPart before.sent after.sent text
 
 -- How a session ends, by its status.
@@ -97,7 +107,7 @@ Ends (status.CutInput rest) before after taken units tail text = EndsCut rest be
 Ends status.ReadFault before after taken units tail text = EndsReadFault before after taken units tail text
 Ends status.LongInput before after taken units tail text = EndsLong before after taken units tail text
 Ends status.LineTooLong before after taken units tail text = EndsAtLongLine before after taken units text
-Ends status.WriteFault before after taken units tail text = EndsWriteFault before after text
+Ends status.WriteFault before after taken units tail text = EndsWriteFault before after taken text
 Ends status.NoMemory before after taken units tail text = EndsWithoutMemory before after taken text
 -- a session does not look at words
 Ends (status.BadWords place) before after taken units tail text = ⊥
@@ -123,7 +133,7 @@ CountsOnly other before after = SameReads before after × SameWrites before afte
 pub record IsSession (opening : CacheState) (before after : Outside) (ended : Status) : Type 0 where
   -- the bytes that it took from the source
   pub taken : List ℕ
-  -- the units that it handled, and what was taken behind them
+  -- the units that it handled, and the bytes that were taken behind the last of them
   pub units : List Whole
   pub tail : List ℕ
   -- the requests that it had executed, each with its second and its reply, and the state at the end
@@ -147,6 +157,8 @@ pub record IsSession (opening : CacheState) (before after : Outside) (ended : St
   pub ends : Ends ended before after taken units tail text
   -- no fault and no refusal is passed over
   pub counts : CountsOnly ended before after
+
+-- What follows is for the functions within: the statement above cites none of it.
 
 -- where a session begins
 abbrev pub start_of : CacheState → Outside → Stand

@@ -5,3 +5,4 @@ pub mod Puts
 pub mod Stores
 pub mod Rows
 pub mod Texts
+pub mod SecondRow

@@ -27,7 +27,9 @@ returns-in-Err-Unsent-Failed-clause-leaves g c = λ opening before taken few ran
     let goes = goes_more (start_of opening before) _ taken _ piece ran.goes in
     let arm = c.in-Err-Unsent-Failed in
     let stops = subst (Stops (start_of opening before) _ (taken ++ piece)) arm.field-0-is (arm.ensures.goes (start_of opening before) (taken ++ piece) goes) in
-    over_at_write_fault opening before _ _ _ _ _ _ taken ran _ piece got.bytes got.same_faults (subst (BrokeOff (start_of opening before) _ (taken ++ piece)) arm.field-0-0-is stops)
+    over_at_write_fault opening before _ _ _ _ _ _ taken ran _ piece got.bytes got.same_faults
+    (omega (arith, length-append taken piece, length-take-le c.in-Got.count c.pull.new.buf got.within, got.within))
+    (subst (BrokeOff (start_of opening before) _ (taken ++ piece)) arm.field-0-0-is stops)
 
 pub returns-in-Err-Unsent-NoMemory-clause-leaves : goal.returns-in-Err-Unsent-NoMemory-clause-leaves
 returns-in-Err-Unsent-NoMemory-clause-leaves g c = λ opening before taken few ran.
@@ -36,7 +38,9 @@ returns-in-Err-Unsent-NoMemory-clause-leaves g c = λ opening before taken few r
     let goes = goes_more (start_of opening before) _ taken _ piece ran.goes in
     let arm = c.in-Err-Unsent-NoMemory in
     let stops = subst (Stops (start_of opening before) _ (taken ++ piece)) arm.field-0-is (arm.ensures.goes (start_of opening before) (taken ++ piece) goes) in
-    over_without_memory opening before _ _ _ _ _ _ taken ran _ piece got.bytes got.same_faults (subst (BrokeOff (start_of opening before) _ (taken ++ piece)) arm.field-0-0-is stops)
+    over_without_memory opening before _ _ _ _ _ _ taken ran _ piece got.bytes got.same_faults
+    (omega (arith, length-append taken piece, length-take-le c.in-Got.count c.pull.new.buf got.within, got.within))
+    (subst (BrokeOff (start_of opening before) _ (taken ++ piece)) arm.field-0-0-is stops)
 
 pub returns-in-End-clause-leaves : goal.returns-in-End-clause-leaves
 returns-in-End-clause-leaves g c = λ opening before taken few ran.
