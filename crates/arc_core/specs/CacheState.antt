@@ -1,11 +1,11 @@
 -- The state of the machine.
-use Rattle.std.specs.Prelude.{ℕ, ◌^◌, ◌<◌, ◌≤◌}
-use Rattle.std.specs.List.{AllByRecursion}
-use Rattle.std.specs.FinMap.{entries}
-use Rattle.arc_core.specs.Item.{Item, IsItem, size_of}
-use Rattle.arc_core.specs.Places.{Places, empty_places, total_of, HasEachKeyOnce}
+use Rattle.std.specs.Prelude.{◌≡◌, ℕ, ◌^◌, ◌<◌, ◌≤◌, List, bytes_eq, true, false, Some}
+use Rattle.std.specs.Map.{lookup}
+use Rattle.std.specs.FinMap.{get}
+use Rattle.arc_core.specs.Item.{Item, IsItem, size_of, expiry_of, is_sticky}
+use Rattle.arc_core.specs.Places.{Places, empty_places, found, total_of, HasEachKeyOnce}
 
--- The latest second that a request came with, the cas counter, and the items in their places.
+-- The latest second that an executed request came with, the cas counter, and the items in their places.
 pub record CacheState : Type 0 where
   pub latest : ℕ
   pub counter : ℕ
@@ -19,13 +19,19 @@ opening_state limit = record { latest = 0; counter = 0; places = empty_places li
 abbrev pub accounted : CacheState → ℕ
 accounted state = total_of size_of state.places
 
+-- The rules that items in their places keep.
+pub record ArePlaced (places : Places Item) : Type 0 where
+  -- each item keeps the rules on items
+  pub items : (key : List ℕ) (item : Item) → found key places ≡ Some item → IsItem item
+  -- it is among the sticky ones exactly where it is never evicted
+  pub on_shelf : (key : List ℕ) (item : Item) → lookup (bytes_eq key) places.shelf ≡ Some item → is_sticky (expiry_of item) ≡ false
+  pub sticky : (key : List ℕ) (item : Item) → get places.sticky key ≡ Some item → is_sticky (expiry_of item) ≡ true
+  -- no key has two places
+  pub once : HasEachKeyOnce places
+
 -- The rules that a state keeps.
 pub record IsState (state : CacheState) : Type 0 where
-  -- each item keeps the rules on items
-  pub on_shelf : AllByRecursion (λ place. IsItem place.1) state.places.shelf
-  pub sticky : AllByRecursion (λ place. IsItem place.1) (entries state.places.sticky)
-  -- no key is held twice
-  pub once : HasEachKeyOnce state.places
+  pub placed : ArePlaced state.places
   pub second : state.latest < 2 ^ 32
   -- the accounted bytes are within the limit
   pub within : accounted state ≤ state.places.limit

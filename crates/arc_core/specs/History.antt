@@ -1,11 +1,13 @@
 -- Histories of executed requests, and which of them are legal.
-use Rattle.std.specs.Prelude.{◌≡◌, ◌⊎◌, ℕ, List, [], ◌∷◌}
+use Rattle.std.specs.Prelude.{◌≡◌, ◌≢◌, ◌⊎◌, ℕ, List, [], ◌∷◌, Some}
 use Rattle.arc_core.specs.declared.replies.Reply.{Reply}
 use Rattle.arc_core.specs.declared.replies.Reply.TheVariants as reply
 use Rattle.arc_core.specs.declared.replies.Word.TheVariants as word
-use Rattle.arc_core.specs.PlainRequest.{PlainAct, PlainRequest, store, get}
+use Rattle.arc_core.specs.PlainRequest.{PlainAct, PlainRequest, store, get, count, delete, touch, flush_all, version}
 use Rattle.arc_core.specs.CacheState.{CacheState}
-use Rattle.arc_core.specs.Step.{step}
+use Rattle.arc_core.specs.Item.{Item, expiry_of, expiry_at, is_sticky}
+use Rattle.arc_core.specs.Places.{found}
+use Rattle.arc_core.specs.Step.{named_keys, started, step}
 
 -- One executed request: by which seat and session, at which second, and with which reply.
 pub record Entry : Type 0 where
@@ -15,16 +17,23 @@ pub record Entry : Type 0 where
   pub request : PlainRequest
   pub reply : Reply
 
--- The request may want memory: all but those that are known to need none.
-abbrev pub MayWantMemory : PlainAct → Type 0
-MayWantMemory (store verb key flags exptime value) = Unit {0}
-MayWantMemory (get keys unique) = Unit {0}
+-- The request may want memory, by the state at the start of its step: all may but those that are known to need none. A
+-- `touch` needs some only where its item gets to be sticky or is no longer so.
+abbrev pub MayWantMemory : CacheState → PlainAct → Type 0
+MayWantMemory start (store verb key flags exptime value) = Unit {0}
+MayWantMemory start (get keys unique) = Unit {0}
+MayWantMemory start (count up key delta initial) = Unit {0}
+MayWantMemory start (delete key) = ⊥
+MayWantMemory start (touch key exptime) =
+    (item : Item) × (found key start.places ≡ Some item) × (is_sticky (expiry_of item) ≢ is_sticky (expiry_at start.latest exptime))
+MayWantMemory start flush_all = ⊥
+MayWantMemory start version = ⊥
 
 -- The reply and the new state are those of the machine's step. Or memory was refused to a request that may want it, and nothing has changed.
 abbrev pub Executes : CacheState → ℕ → PlainRequest → Reply → CacheState → Type 0
 Executes old now request answer new =
     (step old now request ≡ (new, answer))
-    ⊎ (MayWantMemory request.act × (answer ≡ reply.Word word.NoMemory) × (new ≡ old))
+    ⊎ (MayWantMemory (started old now (named_keys request.act)) request.act × (answer ≡ reply.Word word.NoMemory) × (new ≡ old))
 
 -- The history is legal from the old state, and leads to the new one.
 abbrev pub Replays : CacheState → List Entry → CacheState → Type 0

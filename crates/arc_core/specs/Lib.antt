@@ -23,3 +23,4 @@ pub mod Step
 pub mod Words
 pub mod WorkedFilters
 pub mod WorkedRows
+pub mod WorkedSteps

@@ -1,5 +1,5 @@
 -- Requests as plain data: lists of bytes and of words, wherever they lie in memory.
-use Rattle.std.specs.Prelude.{ℕ, Bool, List, ℤ}
+use Rattle.std.specs.Prelude.{ℕ, Bool, List, Option, ℤ}
 use Rattle.arc_core.specs.declared.requests.Request.{Request}
 use Rattle.arc_core.specs.declared.requests.Act.{Act}
 use Rattle.arc_core.specs.declared.requests.Act.TheVariants as act
@@ -10,6 +10,11 @@ use Rattle.arc_core.specs.declared.requests.StoreVerb.{StoreVerb}
 pub data PlainAct : Type 0 where
   store : (verb : StoreVerb) → (key : List ℕ) → (flags : ℕ) → (exptime : ℤ) → (value : List ℕ) → PlainAct
   get : (keys : List (List ℕ)) → (unique : Bool) → PlainAct
+  count : (up : Bool) → (key : List ℕ) → (delta : ℕ) → (initial : Option (ℕ × ℤ × ℕ)) → PlainAct
+  delete : (key : List ℕ) → PlainAct
+  touch : (key : List ℕ) → (exptime : ℤ) → PlainAct
+  flush_all : PlainAct
+  version : PlainAct
 
 -- a request
 pub record PlainRequest : Type 0 where
@@ -19,6 +24,11 @@ pub record PlainRequest : Type 0 where
 abbrev pub plain_act : Act → PlainAct
 plain_act (act.Store verb key flags exptime value) = store verb key flags exptime value.now
 plain_act (act.Get keys unique) = get keys unique
+plain_act (act.Count up key delta initial) = count up key delta initial
+plain_act (act.Delete key) = delete key
+plain_act (act.Touch key exptime) = touch key exptime
+plain_act act.FlushAll = flush_all
+plain_act act.Version = version
 
 -- the request as plain data
 abbrev pub plain : Request → PlainRequest

@@ -15,12 +15,21 @@ line_end = 13 ∷ 10 ∷ []
 -- the text of a word
 abbrev pub word_text : Word → List ℕ
 word_text word.Stored = codes "STORED"
+word_text word.NotStored = codes "NOT_STORED"
+word_text word.Exists = codes "EXISTS"
+word_text word.NotFound = codes "NOT_FOUND"
+word_text word.Deleted = codes "DELETED"
+word_text word.Touched = codes "TOUCHED"
+word_text word.Ok = codes "OK"
+word_text word.Version = codes "VERSION arcus-profile-1"
+word_text word.NotNumeric = codes "CLIENT_ERROR cannot increment or decrement non-numeric value"
 word_text word.TooLarge = codes "CLIENT_ERROR too large value"
 word_text word.OutOfMemory = codes "SERVER_ERROR out of memory"
 word_text word.NoMemory = codes "SERVER_ERROR no memory from the system"
 word_text word.Unknown = codes "ERROR unknown command"
 word_text word.BadFormat = codes "CLIENT_ERROR bad command line format"
 word_text word.BadChunk = codes "CLIENT_ERROR bad data chunk"
+word_text word.LineTooLong = codes "CLIENT_ERROR line too long"
 
 -- a word as a line
 abbrev pub word_line : Word → List ℕ
@@ -39,4 +48,5 @@ row_text row = row_head row ++ row.value ++ line_end
 -- the text of a reply
 abbrev pub reply_text : Reply → List ℕ
 reply_text (reply.Word w) = word_line w
+reply_text (reply.Number n) = decimal n ++ line_end
 reply_text (reply.Values rows) = flat_map row_text rows ++ codes "END" ++ line_end

@@ -6,6 +6,10 @@ use Rattle.std.specs.Option.{option_map, option_and_then}
 pub data Part : Type 0 → Type 1 where
   -- one word of a kind
   one : {A : Type 0} → (List ℕ → Option A) → Part A
+  -- one part, and then another
+  both : {A B : Type 0} → Part A → Part B → Part (A × B)
+  -- a part that may be left out
+  perhaps : {A : Type 0} → Part A → Part (Option A)
   -- all words that are left
   all_left : {A : Type 0} → (List (List ℕ) → Option A) → Part A
 
@@ -22,6 +26,10 @@ part >>= next = followed_by part next
 -- The part spells this by these words.
 abbrev pub SpellsPart : {A : Type 0} → Part A → List (List ℕ) → A → Type 0
 SpellsPart (one kind) list a = (word : List ℕ) × (list ≡ word ∷ []) × (kind word ≡ Some a)
+SpellsPart (both first second) list a =
+    (front : List (List ℕ)) × (back : List (List ℕ)) × (list ≡ front ++ back) × SpellsPart first front a.0 × SpellsPart second back a.1
+SpellsPart (perhaps part) list None = list ≡ []
+SpellsPart (perhaps part) list (Some a) = SpellsPart part list a
 SpellsPart (all_left kind) list a = kind list ≡ Some a
 
 -- The row spells this by these words: those of its parts, one part after another, and no more.
@@ -30,10 +38,18 @@ Spells (followed_by {B = B} part next) list a =
     (b : B) × (front : List (List ℕ)) × (back : List (List ℕ)) × (list ≡ front ++ back) × SpellsPart part front b × Spells (next b) back a
 Spells (gives result) list a = (list ≡ []) × (a ≡ result)
 
+-- what is made of an optional part by its reading: where it is not read it is left out
+abbrev pub or_left_out : {A : Type 0} → List (List ℕ) → Option (A × List (List ℕ)) → Option A × List (List ℕ)
+or_left_out list None = (None, list)
+or_left_out list (Some read) = (Some read.0, read.1)
+
 -- what a part makes of the first words, and the words behind them
 abbrev pub part_read : {A : Type 0} → Part A → List (List ℕ) → Option (A × List (List ℕ))
 part_read (one kind) [] = None
 part_read (one kind) (word ∷ more) = option_map (λ a. (a, more)) (kind word)
+part_read (both first second) list =
+    option_and_then (λ read. option_map (λ behind. ((read.0, behind.0), behind.1)) (part_read second read.1)) (part_read first list)
+part_read (perhaps part) list = Some (or_left_out list (part_read part list))
 part_read (all_left kind) list = option_map (λ a. (a, [])) (kind list)
 
 -- what is spelled at the end of the line

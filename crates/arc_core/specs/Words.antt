@@ -1,5 +1,6 @@
 -- Words of a line or block, and what single words spell. (The memcached protocol separates words by a space.)
-use Rattle.std.specs.Prelude.{◌==◌, ◌&&◌, not, ℕ, ◌+◌, ◌-◌, ◌*◌, nat_lt, nat_le, if◌then◌else◌, Bool, List, length, drop, filter, fold, slice_index, is_none, All, Option, Some, None}
+use Rattle.std.specs.Prelude.{◌==◌, ◌&&◌, not, ℕ, ◌+◌, ◌-◌, ◌*◌, ◌^◌, nat_lt, nat_le, if◌then◌else◌, Bool, List, length, drop, filter, fold, slice_index, bytes_eq, codes, is_none, All, Option, Some, None, ℤ, pos, ◌-ℤ◌}
+use Rattle.std.specs.Option.{option_map}
 use Rattle.std.specs.List.{slice_split, list_all}
 use Rattle.std.specs.Char.{is_ascii_digit}
 use Rattle.arc_core.specs.Key.{key_fault, IsKey}
@@ -28,9 +29,19 @@ is_numeral word = nat_lt 0 (length word) && nat_le (length word) 20 && list_all 
 unfoldable pub number_below : ℕ → List ℕ → Option ℕ
 number_below bound word = if is_numeral word && nat_lt (number_of word) bound then Some (number_of word) else None
 
--- the word less a minus sign in front
-abbrev pub without_minus : List ℕ → List ℕ
-without_minus word = if slice_index word 0 == 45 then drop 1 word else word
+-- such a number that is not 0
+unfoldable pub number_from_1 : ℕ → List ℕ → Option ℕ
+number_from_1 bound word = if is_numeral word && nat_lt 0 (number_of word) && nat_lt (number_of word) bound then Some (number_of word) else None
+
+-- an exptime: a number of 32 bits, or a minus sign and a number to 2,147,483,648
+unfoldable pub exptime_word : List ℕ → Option ℤ
+exptime_word word =
+    if slice_index word 0 == 45 then option_map (λ n. pos 0 -ℤ pos n) (number_below (2 ^ 31 + 1) (drop 1 word))
+    else option_map pos (number_below (2 ^ 32) word)
+
+-- the word `0`, and no other spelling of the number
+unfoldable pub zero_word : List ℕ → Option ℕ
+zero_word word = if bytes_eq word (codes "0") then Some 0 else None
 
 -- a key
 unfoldable pub key_word : List ℕ → Option (List ℕ)

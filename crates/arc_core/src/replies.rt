@@ -7,7 +7,23 @@ use crate::{Key, Seq, Value};
 pub enum Word {
     /// The value was stored.
     Stored,
-    /// The block is larger than its limit.
+    /// The condition of the storing command does not hold.
+    NotStored,
+    /// The item has another cas unique.
+    Exists,
+    /// No item is held under the key.
+    NotFound,
+    /// The item was dropped.
+    Deleted,
+    /// The item has the new expiry.
+    Touched,
+    /// It was done.
+    Ok,
+    /// The server's version.
+    Version,
+    /// The value spells no number of 64 bits.
+    NotNumeric,
+    /// The block is larger than its limit, or a value would be larger than its limit.
     TooLarge,
     /// No eviction could make room.
     OutOfMemory,
@@ -17,8 +33,10 @@ pub enum Word {
     Unknown,
     /// The line begins with a command, and its further words do not spell it.
     BadFormat,
-    /// CR LF does not stand behind the block.
+    /// CR LF does not stand behind the block, or the block is not the keys that its line names.
     BadChunk,
+    /// The line has no end within 65,536 bytes.
+    LineTooLong,
 }
 
 /// An item that a `get` answers: its key, client flags, cas unique where it was asked for, and value.
@@ -35,6 +53,8 @@ pub struct ValueRow {
 pub enum Reply {
     /// One line.
     Word(Word),
+    /// A number, as a line.
+    Number(u64),
     /// The items that were found, in the request's order.
     Values(Seq<ValueRow>),
 }

@@ -7,6 +7,8 @@ use crate::{KeyRef, KeyWords};
 pub enum Answer {
     /// As the reply's text.
     Plain,
+    /// Not at all. (memcached's `noreply`.)
+    NoReply,
 }
 
 /// How a value is stored under its key.
@@ -14,12 +16,23 @@ pub enum Answer {
 pub enum StoreVerb {
     /// Whether or not the key holds an item.
     Set,
+    /// Where the key holds none.
+    Add,
+    /// Where the key holds one.
+    Replace,
+    /// Behind the value of the item that the key holds, whose client flags and expiry stay.
+    Append,
+    /// In front of the value of the item that the key holds, whose client flags and expiry stay.
+    Prepend,
+    /// Where the key holds an item with this cas unique.
+    Cas(u64),
 }
 
 /// What a request does.
 #[derive(Drop)]
 pub enum Act<'a> {
-    /// Stores a value with client flags. `exptime` is the protocol's: 0 is never.
+    /// Stores a value with client flags. `exptime` is the protocol's, from -2^31 to 2^32 - 1: 0 is never, -1 is sticky,
+    /// any other below 0 is at once; up to 2,592,000 counts seconds from now, and above that is itself the second.
     Store {
         verb: StoreVerb,
         key: KeyRef<'a>,
@@ -32,6 +45,27 @@ pub enum Act<'a> {
         keys: KeyWords<'a>,
         unique: bool,
     },
+    /// Adds to the number that a value spells in decimal digits, or takes from it where `up` is false. Where the key holds
+    /// no item, `initial` makes one: its client flags, exptime and number.
+    Count {
+        up: bool,
+        key: KeyRef<'a>,
+        delta: u64,
+        initial: Option<(u32, i64, u64)>,
+    },
+    /// Drops the item.
+    Delete {
+        key: KeyRef<'a>,
+    },
+    /// Gives the item another expiry.
+    Touch {
+        key: KeyRef<'a>,
+        exptime: i64,
+    },
+    /// Drops all items.
+    FlushAll,
+    /// Asks for the server's version.
+    Version,
 }
 
 /// A request. It borrows the line and the block that spell it.

@@ -1,5 +1,5 @@
 //! Values of items and elements.
-ghost use Rattle.std.specs.Prelude.{◌≡◌, List, ℕ, IfOk};
+ghost use Rattle.std.specs.Prelude.{◌≡◌, ◌+◌, ◌^◌, ◌<◌, ◌++◌, List, ℕ, length, IfOk};
 
 use crate::NoMemory;
 use std::alloc::Global;
@@ -31,6 +31,20 @@ impl Value {
         ensures { IfOk result (λ equal. equal ≡ self.now) }
     {
         let bytes = Vec::from_slice(*self.bytes.allocator(), &self.bytes)?;
+        Ok(Value { bytes })
+    }
+
+    /// The bytes of `front`, of this value and of `back`, one after another, which are fewer than 2^64. `NoMemory` comes
+    /// for want of memory alone.
+    pub fn joined(&self, front: &[u8], back: &[u8]) -> Result<Value, NoMemory>
+        requires { length front.now + length self.now + length back.now < 2 ^ 64 }
+        ensures { IfOk result (λ joined. joined ≡ front.now ++ self.now ++ back.now) }
+    {
+        let len = front.len() + self.bytes.len() + back.len();
+        let mut bytes = Vec::with_capacity(*self.bytes.allocator(), len)?;
+        bytes.extend_from_slice(front)?;
+        bytes.extend_from_slice(&self.bytes)?;
+        bytes.extend_from_slice(back)?;
         Ok(Value { bytes })
     }
 

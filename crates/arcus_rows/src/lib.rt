@@ -1,10 +1,22 @@
 //! Tests that cross the crates: rows of the protocol over the top call, and each call that can want memory once with
-//! ample memory. The crate holds nothing else.
+//! ample memory. Beside them stands `play`, by which the rows run.
 #![tactic(auto)]
+
+mod playing;
+
+pub use playing::{Played, play};
 
 #[cfg(test)]
 mod ample_memory;
 #[cfg(test)]
+mod bad_input;
+#[cfg(test)]
 mod edge;
+#[cfg(test)]
+mod eviction;
+#[cfg(test)]
+mod harness;
+#[cfg(test)]
+mod long_session;
 #[cfg(test)]
 mod rows;

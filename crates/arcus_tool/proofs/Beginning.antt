@@ -45,6 +45,7 @@ never_began opening before = record {
   text = [];
   took = took_nothing before.left;
   spans = refl;
+  last = tt;
   tells = (refl, refl);
   legal = refl;
   seconds = refl;

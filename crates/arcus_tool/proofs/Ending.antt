@@ -1,5 +1,5 @@
 -- What one pull does to a session.
-use Rattle.std.proofs.Common.{◌≡◌, ◌≤◌, ◌<◌, ◌^◌, ℕ, List, [], ◌∷◌, ◌++◌, length, Option, Some, None, refl, sym, ap, ◌∙◌, subst, append_assoc, arith, inr}
+use Rattle.std.proofs.Common.{◌≡◌, ◌≤◌, ◌<◌, ◌^◌, ℕ, List, [], ◌∷◌, ◌++◌, length, Option, Some, None, refl, sym, ap, ◌∙◌, subst, append_assoc, arith, inl, inr}
 use Rattle.std.specs.Prelude.{MatchOption, IfSome}
 use Rattle.std.proofs.lemmas.List.{append-nil}
 use Rattle.arc_core.specs.declared.outside.Need.{Need}
@@ -8,12 +8,12 @@ use Rattle.arc_core.specs.Framing.{Whole, IsSpan, IsRest, IsLast, line, line_wit
 use Rattle.arc_core.specs.Grammar.{line_needs}
 use Rattle.arc_core.specs.CacheState.{CacheState}
 use Rattle.frame_reader.specs.Progress.{Progress, StandsFor, ready_unit}
-use Rattle.arcus_tool.specs.Handling.{Stand, Went, GoesOn, Stops, BrokeOff, NoneTooLong}
-use Rattle.arcus_tool.specs.declared.output.Unsent.TheVariants as unsent
-use Rattle.arcus_tool.specs.declared.units.Stop.TheVariants as stop
+use Rattle.arcus_tool.specs.Output.{TookNothing}
+use Rattle.arcus_tool.specs.Handling.{Stand, stand, Went, GoesOn, Stops, BrokeOff, NoneFinal}
+use Rattle.arcus_tool.specs.declared.stops.Stop.TheVariants as stop
 use Rattle.arcus_tool.specs.declared.status.Status.TheVariants as status
 use Rattle.arcus_tool.specs.Session.{Outside, outside, IsSession, RanSoFar, start_of, status_at_end, Ends, ReadToEnd, SentWhole, CountsOnly, SameReads, SameWrites, SameRefusals}
-use Rattle.arcus_tool.proofs.Histories.{spans_more}
+use Rattle.arcus_tool.proofs.Histories.{spans_more, only_of_none}
 use Rattle.arcus_tool.proofs.Going.{went_by}
 
 -- one piece and then another
@@ -22,14 +22,14 @@ first_on a b None = refl
 first_on a b (Some rest) = ap Some (sym (append_assoc a b rest))
 
 -- where no unit is too long and the tail is unfinished, the cut is at its end
-last_rest : (needs : List ℕ → Need) (units : List Whole) (tail : List ℕ) → NoneTooLong units → IsRest needs tail → IsLast needs units tail
+last_rest : (needs : List ℕ → Need) (units : List Whole) (tail : List ℕ) → NoneFinal units → IsRest needs tail → IsLast needs units tail
 last_rest needs [] tail none rest = rest
 last_rest needs (line text ∷ units) tail none rest = last_rest needs units tail none.1 rest
 last_rest needs (line_with_block text block ∷ units) tail none rest = last_rest needs units tail none.1 rest
 last_rest needs (bad_chunk text ∷ units) tail none rest = last_rest needs units tail none.1 rest
 last_rest needs (too_large text ∷ units) tail none rest = last_rest needs units tail none.1 rest
 last_rest needs (block_no_memory text ∷ units) tail none rest = last_rest needs units tail none.1 rest
-last_rest needs (line_too_long ∷ units) tail none rest = absurd (none.0 refl)
+last_rest needs (line_too_long ∷ units) tail none rest = absurd (none.0 (inl refl))
 
 -- more bytes came, and stand behind what the reader has taken
 pub went_more : (from to : Stand) (taken : List ℕ) (units : List Whole) (tail more : List ℕ) → Went from to taken units tail → Went from to (taken ++ more) units (tail ++ more)
@@ -47,6 +47,20 @@ went_more from to taken units tail more went = record {
 pub goes_more : (from to : Stand) (taken : List ℕ) (progress : Progress) (piece : List ℕ) → GoesOn from to taken progress [] → GoesOn from to (taken ++ piece) progress piece
 goes_more from to taken progress piece goes =
     (goes.0, goes.1, went_more from to taken goes.0 goes.1 piece (went_by from to taken goes.0 (goes.1 ++ []) goes.1 (append-nil goes.1) goes.2), goes.3, goes.4)
+
+-- a pull sends nothing
+pub ran_pulled : (opening : CacheState) (before : Outside) (state : CacheState) (coming sent sent' : Option (List ℕ)) (faults faults' refusals refusals' : ℕ) (left : Option (List ℕ)) (read_faults : ℕ) (progress : Progress) (taken : List ℕ)
+    → sent' ≡ sent → faults' ≡ faults → refusals' ≡ refusals
+    → RanSoFar opening before (stand state coming sent faults refusals) left read_faults progress taken
+    → RanSoFar opening before (stand state coming sent' faults' refusals') left read_faults progress taken
+ran_pulled opening before state coming sent sent' faults faults' refusals refusals' left read_faults progress taken s f r ran =
+    subst (λ x. RanSoFar opening before (stand state coming x faults' refusals') left read_faults progress taken) (sym s)
+    (subst (λ x. RanSoFar opening before (stand state coming sent x refusals') left read_faults progress taken) (sym f)
+    (subst (λ x. RanSoFar opening before (stand state coming sent faults x) left read_faults progress taken) (sym r) ran))
+
+-- nothing more was taken behind the piece
+pub came_since : (left left' left'' : Option (List ℕ)) (faults' faults'' : ℕ) (piece : List ℕ) → left ≡ first_then piece left' → TookNothing left' left'' faults' faults'' → left ≡ first_then piece left''
+came_since left left' left'' faults' faults'' piece came nothing = came ∙ ap (first_then piece) (sym nothing.same_left)
 
 module _ (opening : CacheState) (before : Outside) (at : Stand) (left left' : Option (List ℕ)) (faults faults' : ℕ) (progress : Progress) (taken : List ℕ) (ran : RanSoFar opening before at left faults progress taken) where
   -- the bytes that came are the next ones
@@ -72,6 +86,7 @@ module _ (opening : CacheState) (before : Outside) (at : Stand) (left left' : Op
         text = went.text;
         took = took_more piece came;
         spans = went.spans;
+        last = stops.4;
         tells = went.tells;
         legal = went.executed.legal;
         seconds = went.executed.seconds;
@@ -80,9 +95,32 @@ module _ (opening : CacheState) (before : Outside) (at : Stand) (left left' : Op
         counts = (same ∙ ran.no_fault, went.same_faults, went.same_refusals);
       }
 
+  -- the session is over at `quit`
+  pub over_at_quit : (to : Stand) (piece : List ℕ) → left ≡ first_then piece left' → faults' ≡ faults → length (taken ++ piece) ≤ 2 ^ 40
+      → Stops (start_of opening before) to (taken ++ piece) stop.Quit → IsSession opening before (outside left' faults' to.sent to.faults to.refusals to.coming) status.Done
+  over_at_quit to piece came same few stops =
+      let went = stops.2 in
+      record {
+        taken = taken ++ piece;
+        units = stops.0;
+        tail = stops.1;
+        entries = went.entries;
+        closing = to.state;
+        text = went.text;
+        took = took_more piece came;
+        spans = went.spans;
+        last = stops.4;
+        tells = went.tells;
+        legal = went.executed.legal;
+        seconds = went.executed.seconds;
+        own = went.executed.own;
+        ends = inr (record { quits = stops.3; few = few; sent = record { whole = went.sent; no_fault = went.same_faults } });
+        counts = (same ∙ ran.no_fault, went.same_faults, went.same_refusals);
+      }
+
   -- the session is over at a write fault
   pub over_at_write_fault : (to : Stand) (piece : List ℕ) → left ≡ first_then piece left' → faults' ≡ faults → length (taken ++ piece) ≤ 2 ^ 40
-      → BrokeOff (start_of opening before) to (taken ++ piece) unsent.Failed → IsSession opening before (outside left' faults' to.sent to.faults to.refusals to.coming) status.WriteFault
+      → BrokeOff (start_of opening before) to (taken ++ piece) stop.Failed → IsSession opening before (outside left' faults' to.sent to.faults to.refusals to.coming) status.WriteFault
   over_at_write_fault to piece came same few broke = record {
     taken = taken ++ piece;
     units = broke.units;
@@ -92,6 +130,7 @@ module _ (opening : CacheState) (before : Outside) (at : Stand) (left left' : Op
     text = broke.text;
     took = took_more piece came;
     spans = broke.spans;
+    last = broke.last;
     tells = broke.tells;
     legal = broke.executed.legal;
     seconds = broke.executed.seconds;
@@ -102,7 +141,7 @@ module _ (opening : CacheState) (before : Outside) (at : Stand) (left left' : Op
 
   -- the session is over where the sink was refused memory
   pub over_without_memory : (to : Stand) (piece : List ℕ) → left ≡ first_then piece left' → faults' ≡ faults → length (taken ++ piece) ≤ 2 ^ 40
-      → BrokeOff (start_of opening before) to (taken ++ piece) unsent.NoMemory → IsSession opening before (outside left' faults' to.sent to.faults to.refusals to.coming) status.NoMemory
+      → BrokeOff (start_of opening before) to (taken ++ piece) stop.NoMemory → IsSession opening before (outside left' faults' to.sent to.faults to.refusals to.coming) status.NoMemory
   over_without_memory to piece came same few broke = record {
     taken = taken ++ piece;
     units = broke.units;
@@ -112,6 +151,7 @@ module _ (opening : CacheState) (before : Outside) (at : Stand) (left left' : Op
     text = broke.text;
     took = took_more piece came;
     spans = broke.spans;
+    last = broke.last;
     tells = broke.tells;
     legal = broke.executed.legal;
     seconds = broke.executed.seconds;
@@ -141,6 +181,7 @@ module _ (opening : CacheState) (before : Outside) (at : Stand) (left left' : Op
         text = went.text;
         took = ran.took ∙ ap (first_then taken) (sym failed.same_left);
         spans = went.spans;
+        last = only_of_none ran.goes.0 ran.goes.4;
         tells = went.tells;
         legal = went.executed.legal;
         seconds = went.executed.seconds;
@@ -148,7 +189,7 @@ module _ (opening : CacheState) (before : Outside) (at : Stand) (left left' : Op
         ends = record {
           fault = subst (λ f. Rose f faults') ran.no_fault failed.rose;
           short = short;
-          none_too_long = ran.goes.4;
+          none_final = ran.goes.4;
           no_more = cut_here rest;
           sent = record { whole = went.sent; no_fault = went.same_faults };
         };
@@ -156,10 +197,10 @@ module _ (opening : CacheState) (before : Outside) (at : Stand) (left left' : Op
       }
 
 -- how a session ends where the source has ended, by the bytes that came of an unfinished unit
-ends_at : (before after : Outside) (taken : List ℕ) (units : List Whole) (tail text : List ℕ) → ReadToEnd before after taken → NoneTooLong units → IsLast line_needs units tail → SentWhole before after text
+ends_at : (before after : Outside) (taken : List ℕ) (units : List Whole) (tail text : List ℕ) → ReadToEnd before after taken → NoneFinal units → IsLast line_needs units tail → SentWhole before after text
     → Ends (status_at_end tail) before after taken units tail text
-ends_at before after taken units [] text read none last sent = record { read = read; behind_a_unit = refl; none_too_long = none; no_more = last; sent = sent }
-ends_at before after taken units (byte ∷ tail) text read none last sent = record { read = read; within_a_unit = omega arith; came = refl; none_too_long = none; no_more = last; sent = sent }
+ends_at before after taken units [] text read none last sent = inl (record { read = read; behind_a_unit = refl; none_final = none; no_more = last; sent = sent })
+ends_at before after taken units (byte ∷ tail) text read none last sent = record { read = read; within_a_unit = omega arith; came = refl; none_final = none; no_more = last; sent = sent }
 
 -- no count rose where the source has ended
 counts_at : (before after : Outside) (tail : List ℕ) → SameReads before after → SameWrites before after → SameRefusals before after → CountsOnly (status_at_end tail) before after
@@ -188,6 +229,7 @@ over_at_end opening before at left left' faults faults' progress taken ran came 
       text = went.text;
       took = ran.took ∙ ap (first_then taken) (sym came.same_left);
       spans = went.spans;
+      last = only_of_none ran.goes.0 ran.goes.4;
       tells = went.tells;
       legal = went.executed.legal;
       seconds = went.executed.seconds;
@@ -211,13 +253,14 @@ over_at_limit opening before at left faults progress taken ran all rest =
       text = went.text;
       took = ran.took;
       spans = went.spans;
+      last = only_of_none ran.goes.0 ran.goes.4;
       tells = went.tells;
       legal = went.executed.legal;
       seconds = went.executed.seconds;
       own = went.executed.own;
       ends = record {
         all_taken = all;
-        none_too_long = ran.goes.4;
+        none_final = ran.goes.4;
         no_more = last_rest line_needs ran.goes.0 ran.goes.1 ran.goes.4 (rest ran.goes.1 ran.goes.3);
         sent = record { whole = went.sent; no_fault = went.same_faults };
       };

@@ -1,13 +1,13 @@
 -- One history after another, and one unit after others.
-use Rattle.std.proofs.Common.{◌≡◌, ℕ, List, [], ◌∷◌, ◌++◌, Option, true, refl, sym, ap, ◌∙◌, subst, append_assoc}
+use Rattle.std.proofs.Common.{ℕ, List, [], ◌∷◌, ◌++◌, Option, true, refl, sym, ap, ◌∙◌, subst, append_assoc}
 use Rattle.std.specs.List.{AllByRecursion}
 use Rattle.std.proofs.lemmas.List.{append-nil}
 use Rattle.arc_core.specs.declared.outside.Need.{Need}
 use Rattle.arc_core.specs.CacheState.{CacheState}
 use Rattle.arc_core.specs.History.{Entry, Replays}
-use Rattle.arc_core.specs.Framing.{Whole, BeginsWith, IsSpan, line_too_long}
+use Rattle.arc_core.specs.Framing.{Whole, BeginsWith, IsSpan}
 use Rattle.arc_core.specs.SessionText.{TellsUnit, Tells}
-use Rattle.arcus_tool.specs.Handling.{Stand, TicksThrough, IsOwn, Executed, NoneTooLong}
+use Rattle.arcus_tool.specs.Handling.{Stand, TicksThrough, IsOwn, Executed, IsFinal, NoneFinal, OnlyLastFinal}
 
 pub replays_on : (old middle new : CacheState) (first next : List Entry) → Replays old first middle → Replays middle next new → Replays old (first ++ next) new
 replays_on old middle new [] next is then = subst (λ s. Replays s next new) is then
@@ -39,10 +39,22 @@ pub spans_more : (needs : List ℕ → Need) (bytes : List ℕ) (units : List Wh
 spans_more needs bytes [] tail more is = ap (λ b. b ++ more) is
 spans_more needs bytes (unit ∷ units) tail more is = (is.0, is.1 ++ more, ap (λ b. b ++ more) is.2 ∙ append_assoc is.0 is.1 more, is.3, spans_more needs is.1 units tail more is.4)
 
--- a unit that is not too long behind others that are not
-pub none_on : (units : List Whole) (unit : Whole) → NoneTooLong units → (unit ≡ line_too_long → ⊥) → NoneTooLong (units ++ unit ∷ [])
+-- a unit that is not final behind others that are not
+pub none_on : (units : List Whole) (unit : Whole) → NoneFinal units → (IsFinal unit → ⊥) → NoneFinal (units ++ unit ∷ [])
 none_on [] unit is next = (next, tt)
 none_on (first ∷ units) unit is next = (is.0, none_on units unit is.1 next)
+
+-- a unit behind others that are not final may be final
+pub only_last : (units : List Whole) (unit : Whole) → NoneFinal units → OnlyLastFinal (units ++ unit ∷ [])
+only_last [] unit is = tt
+only_last (first ∷ []) unit is = (is.0, tt)
+only_last (first ∷ second ∷ units) unit is = (is.0, only_last (second ∷ units) unit is.1)
+
+-- where none is final, none but the last is
+pub only_of_none : (units : List Whole) → NoneFinal units → OnlyLastFinal units
+only_of_none [] is = tt
+only_of_none (first ∷ []) is = tt
+only_of_none (first ∷ second ∷ units) is = (is.0, only_of_none (second ∷ units) is.1)
 
 -- what a unit behind others tells
 pub tells_on : (units : List Whole) (unit : Whole) (entries own : List Entry) (text said : List ℕ) → Tells true units entries text → TellsUnit unit own said → Tells true (units ++ unit ∷ []) (entries ++ own) (text ++ said)

@@ -1,23 +1,22 @@
 -- How the units of a session are handled, one after another. The statement on sessions cites `TicksThrough`, `IsOwn`,
--- `NoneTooLong` and `EndsTooLong`; all else is for the functions within.
-use Rattle.std.specs.Prelude.{◌≡◌, ◌⊎◌, ℕ, ◌≤◌, List, [], ◌∷◌, ◌++◌, length, drop, Option, None, Result, Ok, Err, true}
+-- `IsTooLong`, `NoneFinal`, `OnlyLastFinal` and `EndsWith`; all else is for the functions within.
+use Rattle.std.specs.Prelude.{◌≡◌, ◌⊎◌, ℕ, ◌≤◌, if◌then◌else◌, List, [], ◌∷◌, ◌++◌, length, drop, Option, Some, None, Result, Ok, Err, true}
 use Rattle.std.specs.List.{AllByRecursion}
 use Rattle.arc_core.specs.declared.outside.Need.TheVariants as need
 use Rattle.arc_core.specs.declared.replies.Word.{Word}
 use Rattle.arc_core.specs.declared.replies.Word.TheVariants as word
 use Rattle.arc_core.specs.Outside.{Ticks, then_sent}
 use Rattle.arc_core.specs.Framing.{Whole, BeginsWith, line_too_long}
-use Rattle.arc_core.specs.Grammar.{SpellsRequest, IsUnknown, IsBadFormat, line_needs}
+use Rattle.arc_core.specs.KeyValueGrammar.{Head}
+use Rattle.arc_core.specs.Grammar.{SpellsRequest, IsUnknown, IsBadFormat, IsBadBlock, IsQuit, line_needs, is_silent, request_of}
 use Rattle.arc_core.specs.CacheState.{CacheState}
 use Rattle.arc_core.specs.History.{Entry, Replays}
-use Rattle.arc_core.specs.PlainRequest.{PlainRequest}
 use Rattle.arc_core.specs.ReplyText.{reply_text, word_line}
-use Rattle.arc_core.specs.SessionText.{Tells}
+use Rattle.arc_core.specs.SessionText.{Tells, TellsUnit, IsQuitUnit, sent_for}
 use Rattle.frame_reader.specs.Progress.{Progress, StandsFor, ready_unit}
 use Rattle.arcus_tool.specs.Output.{IsSentInPart, HasCause, Sends}
-use Rattle.arcus_tool.specs.declared.output.Unsent.{Unsent}
-use Rattle.arcus_tool.specs.declared.units.Stop.{Stop}
-use Rattle.arcus_tool.specs.declared.units.Stop.TheVariants as stop
+use Rattle.arcus_tool.specs.declared.stops.Stop.{Stop}
+use Rattle.arcus_tool.specs.declared.stops.Stop.TheVariants as stop
 
 -- Where a session stands: the machine's state, the seconds to come, what was sent and the sink's counts.
 pub record Stand : Type 0 where
@@ -48,29 +47,87 @@ pub record Executed (from to : Stand) (entries : List Entry) : Type 0 where
   pub own : AllByRecursion IsOwn entries
 
 -- The text was sent between the two stands.
-abbrev pub SendsBetween : Stand → Stand → List ℕ → Result Prim.Unit Unsent → Type 0
+abbrev pub SendsBetween : Stand → Stand → List ℕ → Result Prim.Unit Stop → Type 0
 SendsBetween from to text result = Sends from.sent to.sent from.faults to.faults from.refusals to.refusals text result
 
 -- What was to be told was told: these requests were executed and this text was sent.
-abbrev pub IsTold : (List Entry → List ℕ → Type 0) → Stand → Stand → Result Prim.Unit Unsent → Type 0
+abbrev pub IsTold : (List Entry → List ℕ → Type 0) → Stand → Stand → Result Prim.Unit Stop → Type 0
 IsTold Told from to result = (entries : List Entry) × (text : List ℕ) × Told entries text × Executed from to entries × SendsBetween from to text result
 
--- This request is executed, and its reply's text is told.
-abbrev pub TellsRequest : PlainRequest → List Entry → List ℕ → Type 0
-TellsRequest request entries text = (entry : Entry) × (entry.request ≡ request) × (entries ≡ entry ∷ []) × (text ≡ reply_text entry.reply)
+-- what is sent of an answer to this head
+abbrev pub heard : Head → List ℕ → List ℕ
+heard head answer = if is_silent head.answer then [] else answer
 
--- What a line with its block tells: its request is executed; or the line, which asks for no block, is answered by the session.
+-- What a head with its block tells: its request is executed; or there is none, and the block is answered as bad.
+abbrev pub TellsHead : Head → List ℕ → List Entry → List ℕ → Type 0
+TellsHead head block entries text =
+    ((entry : Entry) × (request_of head block ≡ Some entry.request) × (entries ≡ entry ∷ []) × (text ≡ heard head (reply_text entry.reply)))
+    ⊎ ((request_of head block ≡ None) × (entries ≡ []) × (text ≡ heard head (word_line word.BadChunk)))
+
+-- The session answers the line with its block by itself, with this word.
+abbrev pub AnswersLine : List ℕ → List ℕ → Word → Type 0
+AnswersLine line block answer =
+    ((line_needs line ≡ need.Nothing) × ((IsUnknown line × (answer ≡ word.Unknown)) ⊎ (IsBadFormat line × (answer ≡ word.BadFormat))))
+    ⊎ ((len : ℕ) × (limit : ℕ) × (line_needs line ≡ need.Block len limit) × IsBadBlock line block × (answer ≡ word.BadChunk))
+
+-- The line asks for no block, and ends the session.
+pub record QuitsByLine (line : List ℕ) : Type 0 where
+  pub is_quit : IsQuit line
+  pub asks_nothing : line_needs line ≡ need.Nothing
+
+-- What a line with its block tells: its request is executed; or the session answers it; or it ends the session.
 abbrev pub TellsLine : List ℕ → List ℕ → List Entry → List ℕ → Type 0
 TellsLine line block entries text =
-    ((entry : Entry) × SpellsRequest line block entry.request × (entries ≡ entry ∷ []) × (text ≡ reply_text entry.reply))
-    ⊎ ((line_needs line ≡ need.Nothing) × (answer : Word) × ((IsUnknown line × (answer ≡ word.Unknown)) ⊎ (IsBadFormat line × (answer ≡ word.BadFormat)))
-    × (entries ≡ []) × (text ≡ word_line answer))
+    ((entry : Entry) × SpellsRequest line block entry.request × (entries ≡ entry ∷ []) × (text ≡ sent_for line (reply_text entry.reply)))
+    ⊎ (((answer : Word) × AnswersLine line block answer × (entries ≡ []) × (text ≡ sent_for line (word_line answer)))
+    ⊎ (QuitsByLine line × (entries ≡ []) × (text ≡ [])))
+
+-- What was to be told was told, and the session goes on exactly where it was neither `quit` nor a line that is too long.
+abbrev pub Handles : (List Entry → List ℕ → Type 0) → (Quits Long : Type 0) → Stand → Stand → Result Prim.Unit Stop → Type 0
+Handles Told Quits Long from to (Ok _) = IsTold Told from to (Ok tt) × (Quits → ⊥) × (Long → ⊥)
+Handles Told Quits Long from to (Err stop.Failed) = IsTold Told from to (Err stop.Failed)
+Handles Told Quits Long from to (Err stop.NoMemory) = IsTold Told from to (Err stop.NoMemory)
+Handles Told Quits Long from to (Err stop.LineTooLong) = IsTold Told from to (Ok tt) × Long
+Handles Told Quits Long from to (Err stop.Quit) = IsTold Told from to (Ok tt) × Quits
+
+-- A line with its block was handled so.
+abbrev pub HandlesLine : List ℕ → List ℕ → Stand → Stand → Result Prim.Unit Stop → Type 0
+HandlesLine line block from to result = Handles (TellsLine line block) (QuitsByLine line) ⊥ from to result
+
+-- A unit was handled so.
+abbrev pub HandlesUnit : Whole → Stand → Stand → Result Prim.Unit Stop → Type 0
+HandlesUnit unit from to result = Handles (TellsUnit unit) (IsQuitUnit unit) (unit ≡ line_too_long) from to result
 
 -- The line asks for no block and there is none, or it asks for one of this length, within its limit.
 abbrev pub HasItsBlock : List ℕ → List ℕ → Type 0
 HasItsBlock line block =
     ((line_needs line ≡ need.Nothing) × (block ≡ []))
     ⊎ ((len : ℕ) × (limit : ℕ) × (line_needs line ≡ need.Block len limit) × (length block ≡ len) × (len ≤ limit))
+
+-- The unit is a line that is too long.
+abbrev pub IsTooLong : Whole → Type 0
+IsTooLong unit = unit ≡ line_too_long
+
+-- Behind the unit no other is handled: it is a line that is too long, or it is `quit`.
+abbrev pub IsFinal : Whole → Type 0
+IsFinal unit = IsTooLong unit ⊎ IsQuitUnit unit
+
+-- None of the units is one behind which no other is handled.
+abbrev pub NoneFinal : List Whole → Type 0
+NoneFinal units = AllByRecursion (λ unit. IsFinal unit → ⊥) units
+
+-- None of the units is one, but the last may be.
+abbrev pub OnlyLastFinal : List Whole → Type 0
+OnlyLastFinal [] = Unit {0}
+OnlyLastFinal (unit ∷ []) = Unit {0}
+OnlyLastFinal (unit ∷ next ∷ more) = (IsFinal unit → ⊥) × OnlyLastFinal (next ∷ more)
+
+-- The last of the units is such a one.
+pub record EndsWith (Last : Whole → Type 0) (units : List Whole) : Type 0 where
+  pub front : List Whole
+  pub unit : Whole
+  pub parts : units ≡ front ++ unit ∷ []
+  pub is_last : Last unit
 
 -- The session went from the one stand to the other by the bytes that were taken: they are the spans of these units, which were told, and then the tail.
 pub record Went (from to : Stand) (taken : List ℕ) (units : List Whole) (tail : List ℕ) : Type 0 where
@@ -84,41 +141,37 @@ pub record Went (from to : Stand) (taken : List ℕ) (units : List Whole) (tail 
   pub same_refusals : to.refusals ≡ from.refusals
 
 -- The session broke off while the text of the last of these units was sent, for this cause.
-pub record BrokeOff (from to : Stand) (taken : List ℕ) (cause : Unsent) : Type 0 where
+pub record BrokeOff (from to : Stand) (taken : List ℕ) (cause : Stop) : Type 0 where
   pub units : List Whole
   pub tail : List ℕ
   pub entries : List Entry
   pub text : List ℕ
   pub spans : BeginsWith line_needs taken units tail
+  pub last : OnlyLastFinal units
   pub tells : Tells true units entries text
   pub executed : Executed from to entries
   pub sent : IsSentInPart from.sent to.sent text
   pub has_cause : HasCause from.faults to.faults from.refusals to.refusals cause
 
--- None of the units is a line that is too long.
-abbrev pub NoneTooLong : List Whole → Type 0
-NoneTooLong units = AllByRecursion (λ unit. unit ≡ line_too_long → ⊥) units
-
--- The last of the units is a line that is too long, and no other is.
-pub record EndsTooLong (units : List Whole) : Type 0 where
-  pub front : List Whole
-  pub last : units ≡ front ++ line_too_long ∷ []
-  pub others : NoneTooLong front
+-- The session went up to a unit of this kind, behind which none is handled.
+abbrev pub StopsAt : (Whole → Type 0) → Stand → Stand → List ℕ → Type 0
+StopsAt Last from to taken = (units : List Whole) × (tail : List ℕ) × Went from to taken units tail × EndsWith Last units × OnlyLastFinal units
 
 -- Why the session goes no further.
 abbrev pub Stops : Stand → Stand → List ℕ → Stop → Type 0
-Stops from to taken (stop.Unsent cause) = BrokeOff from to taken cause
-Stops from to taken stop.LineTooLong = (units : List Whole) × (tail : List ℕ) × Went from to taken units tail × EndsTooLong units
+Stops from to taken stop.Failed = BrokeOff from to taken stop.Failed
+Stops from to taken stop.NoMemory = BrokeOff from to taken stop.NoMemory
+Stops from to taken stop.LineTooLong = StopsAt IsTooLong from to taken
+Stops from to taken stop.Quit = StopsAt IsQuitUnit from to taken
 
 -- The session went on so far that the reader has taken all of the tail but these bytes.
 abbrev pub GoesOn : Stand → Stand → List ℕ → Progress → List ℕ → Type 0
 GoesOn from to taken progress behind =
-    (units : List Whole) × (tail : List ℕ) × Went from to taken units (tail ++ behind) × StandsFor line_needs progress tail × NoneTooLong units
+    (units : List Whole) × (tail : List ℕ) × Went from to taken units (tail ++ behind) × StandsFor line_needs progress tail × NoneFinal units
 
--- No unit is ready and nothing waits in the outbox; the reader stands for some bytes.
-pub record IsBetweenUnits (progress : Progress) (waiting : List ℕ) : Type 0 where
+-- No unit is ready; the reader stands for some bytes.
+pub record IsBetweenUnits (progress : Progress) : Type 0 where
   pub waits : ready_unit progress ≡ None
-  pub empty : waiting ≡ []
   pub tail : List ℕ
   pub stands : StandsFor line_needs progress tail
 

@@ -1,4 +1,5 @@
 pub mod Output
 pub mod Handling
 pub mod Session
+pub mod Reading
 pub mod Words

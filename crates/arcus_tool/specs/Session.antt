@@ -1,19 +1,19 @@
 -- What a whole session is: from the bytes that are taken to the bytes that are sent, with the status that it ends with.
-use Rattle.std.specs.Prelude.{◌≡◌, ◌⊎◌, ℕ, ◌^◌, ◌<◌, ◌≤◌, Bool, true, false, List, [], ◌∷◌, ◌++◌, length, Option, None, IfSome}
+use Rattle.std.specs.Prelude.{◌≡◌, ◌⊎◌, ℕ, ◌^◌, ◌<◌, ◌≤◌, Bool, true, false, List, [], ◌∷◌, ◌++◌, length, Option, Some, None, IfSome}
 use Rattle.std.specs.List.{AllByRecursion}
 use Rattle.arc_core.specs.Outside.{Rose, first_then, then_sent}
 use Rattle.arc_core.specs.Framing.{Whole, BeginsWith, IsLast}
 use Rattle.arc_core.specs.Grammar.{line_needs}
 use Rattle.arc_core.specs.CacheState.{CacheState}
 use Rattle.arc_core.specs.History.{Entry, Replays}
-use Rattle.arc_core.specs.SessionText.{Tells}
+use Rattle.arc_core.specs.SessionText.{Tells, IsQuitUnit}
 use Rattle.frame_reader.specs.Progress.{Progress, StandsFor, ready_unit}
 use Rattle.arcus_tool.specs.Output.{IsSentInPart}
-use Rattle.arcus_tool.specs.Handling.{Stand, stand, TicksThrough, IsOwn, GoesOn, NoneTooLong, EndsTooLong, IsBetweenUnits}
+use Rattle.arcus_tool.specs.Handling.{Stand, stand, TicksThrough, IsOwn, GoesOn, IsTooLong, NoneFinal, OnlyLastFinal, EndsWith, IsBetweenUnits}
 use Rattle.arcus_tool.specs.declared.status.Status.{Status}
 use Rattle.arcus_tool.specs.declared.status.Status.TheVariants as status
-use Rattle.arcus_tool.specs.declared.sessions.Turn.{Turn}
-use Rattle.arcus_tool.specs.declared.sessions.Turn.TheVariants as turn
+use Rattle.arcus_tool.specs.declared.stops.Turn.{Turn}
+use Rattle.arcus_tool.specs.declared.stops.Turn.TheVariants as turn
 
 -- A field that is data, in a record whose other fields are facts, means: there is such a value.
 
@@ -50,11 +50,17 @@ pub record ReadToEnd (before after : Outside) (taken : List ℕ) : Type 0 where
   pub short : length taken < 2 ^ 40
 
 -- The source ended behind a unit, and all was sent.
-pub record EndsDone (before after : Outside) (taken : List ℕ) (units : List Whole) (tail text : List ℕ) : Type 0 where
+pub record EndsBehindAUnit (before after : Outside) (taken : List ℕ) (units : List Whole) (tail text : List ℕ) : Type 0 where
   pub read : ReadToEnd before after taken
   pub behind_a_unit : tail ≡ []
-  pub none_too_long : NoneTooLong units
+  pub none_final : NoneFinal units
   pub no_more : IsLast line_needs units tail
+  pub sent : SentWhole before after text
+
+-- The last unit is `quit`, and all was sent.
+pub record EndsAtQuit (before after : Outside) (taken : List ℕ) (units : List Whole) (text : List ℕ) : Type 0 where
+  pub quits : EndsWith IsQuitUnit units
+  pub few : length taken ≤ 2 ^ 40
   pub sent : SentWhole before after text
 
 -- The source ended within a unit, of which so many bytes came, and all was sent.
@@ -62,7 +68,7 @@ pub record EndsCut (rest : ℕ) (before after : Outside) (taken : List ℕ) (uni
   pub read : ReadToEnd before after taken
   pub within_a_unit : 0 < rest
   pub came : length tail ≡ rest
-  pub none_too_long : NoneTooLong units
+  pub none_final : NoneFinal units
   pub no_more : IsLast line_needs units tail
   pub sent : SentWhole before after text
 
@@ -70,20 +76,20 @@ pub record EndsCut (rest : ℕ) (before after : Outside) (taken : List ℕ) (uni
 pub record EndsReadFault (before after : Outside) (taken : List ℕ) (units : List Whole) (tail text : List ℕ) : Type 0 where
   pub fault : Rose before.read_faults after.read_faults
   pub short : length taken < 2 ^ 40
-  pub none_too_long : NoneTooLong units
+  pub none_final : NoneFinal units
   pub no_more : IsLast line_needs units tail
   pub sent : SentWhole before after text
 
 -- 2^40 bytes were taken, none more are, and all was sent.
 pub record EndsLong (before after : Outside) (taken : List ℕ) (units : List Whole) (tail text : List ℕ) : Type 0 where
   pub all_taken : length taken ≡ 2 ^ 40
-  pub none_too_long : NoneTooLong units
+  pub none_final : NoneFinal units
   pub no_more : IsLast line_needs units tail
   pub sent : SentWhole before after text
 
 -- The last unit is a line that is too long, and all was sent.
 pub record EndsAtLongLine (before after : Outside) (taken : List ℕ) (units : List Whole) (text : List ℕ) : Type 0 where
-  pub too_long : EndsTooLong units
+  pub too_long : EndsWith IsTooLong units
   pub few : length taken ≤ 2 ^ 40
   pub sent : SentWhole before after text
 
@@ -102,7 +108,7 @@ pub record EndsWithoutMemory (before after : Outside) (taken text : List ℕ) : 
 
 -- How a session ends, by its status.
 abbrev pub Ends : Status → Outside → Outside → List ℕ → List Whole → List ℕ → List ℕ → Type 0
-Ends status.Done before after taken units tail text = EndsDone before after taken units tail text
+Ends status.Done before after taken units tail text = EndsBehindAUnit before after taken units tail text ⊎ EndsAtQuit before after taken units text
 Ends (status.CutInput rest) before after taken units tail text = EndsCut rest before after taken units tail text
 Ends status.ReadFault before after taken units tail text = EndsReadFault before after taken units tail text
 Ends status.LongInput before after taken units tail text = EndsLong before after taken units tail text
@@ -143,8 +149,9 @@ pub record IsSession (opening : CacheState) (before after : Outside) (ended : St
   pub text : List ℕ
   -- the bytes were the next ones that the source had left
   pub took : before.left ≡ first_then taken after.left
-  -- the units are the first ones of these bytes
+  -- the units are the first ones of these bytes, and none was handled behind `quit` or a line that is too long
   pub spans : BeginsWith line_needs taken units tail
+  pub last : OnlyLastFinal units
   -- the requests and replies are those of the units in their order, and the text is theirs
   pub tells : Tells (is_closed ended) units entries text
   -- the replies and states are a run of the machine
@@ -157,6 +164,24 @@ pub record IsSession (opening : CacheState) (before after : Outside) (ended : St
   pub ends : Ends ended before after taken units tail text
   -- no fault and no refusal is passed over
   pub counts : CountsOnly ended before after
+
+-- COMPLETENESS. Input that is whole is answered whole.
+
+-- The input is whole units to its end, or to a unit that is `quit`, and none of them is a line that is too long.
+pub record IsWholeInput (input : List ℕ) : Type 0 where
+  pub units : List Whole
+  pub tail : List ℕ
+  pub spans : BeginsWith line_needs input units tail
+  pub none_too_long : AllByRecursion (λ unit. IsTooLong unit → ⊥) units
+  pub ends : (tail ≡ []) ⊎ EndsWith IsQuitUnit units
+
+-- Where the source tells that whole input is left, of fewer than 2^40 bytes, and no pull and no push failed, the session
+-- ends with Done, or for want of memory.
+abbrev pub IsComplete : Outside → Outside → Status → Type 0
+IsComplete before after ended =
+    (input : List ℕ) → before.left ≡ Some input → IsWholeInput input → length input < 2 ^ 40
+    → (Rose before.read_faults after.read_faults → ⊥) → (Rose before.write_faults after.write_faults → ⊥)
+    → (ended ≡ status.Done) ⊎ (ended ≡ status.NoMemory)
 
 -- What follows is for the functions within: the statement above cites none of it.
 
@@ -178,17 +203,16 @@ TurnLeaves opening before at left read_faults progress taken (turn.Over ended) =
     IsSession opening before (outside left read_faults at.sent at.faults at.refusals at.coming) ended
 
 -- What one pull keeps: no more bytes came than the buffer has, and the session stands between units.
-abbrev pub TurnKeeps : ℕ → Progress → List ℕ → Turn → Type 0
-TurnKeeps most progress waiting (turn.More count) = (0 < count) × (count ≤ most) × IsBetweenUnits progress waiting
-TurnKeeps most progress waiting (turn.Over ended) = Unit {0}
+abbrev pub TurnKeeps : ℕ → Progress → Turn → Type 0
+TurnKeeps most progress (turn.More count) = (0 < count) × (count ≤ most) × IsBetweenUnits progress
+TurnKeeps most progress (turn.Over ended) = Unit {0}
 
 -- the status at the end of the source, by the bytes that came of an unfinished unit
 abbrev pub status_at_end : List ℕ → Status
 status_at_end [] = status.Done
 status_at_end (byte ∷ bytes) = status.CutInput (length (byte ∷ bytes))
 
--- The reader and the outbox have taken no byte.
-pub record IsFresh (progress : Progress) (waiting : List ℕ) : Type 0 where
+-- The reader has taken no byte.
+pub record IsFresh (progress : Progress) : Type 0 where
   pub stands : StandsFor line_needs progress []
   pub waits : ready_unit progress ≡ None
-  pub empty : waiting ≡ []

@@ -2,15 +2,18 @@
 #![tactic(auto)]
 
 mod edge;
-mod output;
+mod joined;
 mod sessions;
 mod status;
-mod texts;
+mod stops;
+#[cfg(test)]
+mod tests;
 mod top;
 mod units;
+mod words;
 
 pub use edge::{StdSink, StdSource, WallClock};
-pub use output::Unsent;
 pub use sessions::session;
 pub use status::Status;
 pub use top::{World, run};
+pub use words::{BadWords, Job, read_words};

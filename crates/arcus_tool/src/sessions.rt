@@ -4,16 +4,20 @@ ghost use Rattle.arc_core.specs.CacheState.{CacheState, opening_state};
 ghost use Rattle.arc_core.specs.Grammar.{line_needs};
 ghost use Rattle.frame_reader.specs.Progress.{StandsFor, ready_unit};
 ghost use Rattle.arcus_tool.specs.Handling.{stand, IsBetweenUnits};
-ghost use Rattle.arcus_tool.specs.Session.{Outside, outside, IsSession, RanSoFar, TurnLeaves, TurnKeeps, status_at_end, IsFresh};
+ghost use Rattle.arcus_tool.specs.Session.{Outside, outside, IsSession, IsComplete, RanSoFar, TurnLeaves, TurnKeeps, status_at_end, IsFresh};
 
-use crate::output::{Outbox, Unsent};
+use crate::joined::{JoinedLink, Joins, Pair};
 use crate::status::Status;
-use crate::units::{Stop, take_piece};
-use arc_core::{Clock, Executor, NoMemory, Pull, Sink, Source};
+use crate::stops::{Stop, Turn};
+use crate::units::take_piece;
+use arc_core::{Clock, Executor, Link, NoMemory, Pull, Sink, Source};
 use cache_engine::{Cache, Settings};
-use frame_reader::{Frames, reader_stands_for_a_unit};
+use frame_reader::{
+    Frames, beginnings_agree, reader_stands_for_a_unit, rest_begins_with_no_unit, units_stay,
+};
 use line_grammar::KvHeads;
 use std::alloc::Global;
+use std::marker::Brand;
 
 /// The most bytes that one pull asks for.
 const PIECE_BYTES: usize = 16_384;
@@ -21,42 +25,33 @@ const PIECE_BYTES: usize = 16_384;
 /// The most bytes that a session takes.
 const MAX_INPUT: u64 = 1 << 40;
 
-/// What one pull leaves.
-enum Turn {
-    /// So many bytes came, and the session goes on.
-    More(usize),
-    /// The session is over.
-    Over(Status),
-}
-
 // Pulls once, and handles the units that get whole by the bytes that come.
-fn pull_once<E: Executor, C: Clock, K: Sink, S: Source>(
+fn pull_once<E: Executor, C: Clock, L: Link>(
     frames: &mut Frames<KvHeads>,
     exec: &mut E,
     clock: &mut C,
-    out: &mut Outbox,
-    sink: &mut K,
-    source: &mut S,
+    link: &mut L,
     buffer: &mut [u8],
 ) -> Turn
     requires some { 0 < length buffer.old }
-    requires at_start { IsBetweenUnits frames.old out.old }
-    ensures keeps { TurnKeeps (length buffer.old) frames.new out.new result }
+    requires at_start { IsBetweenUnits frames.old }
+    ensures keeps { TurnKeeps (length buffer.old) frames.new result }
     ensures leaves { (opening : CacheState) (before : Outside) (taken : List ℕ) → length taken + length buffer.old ≤ 2 ^ 40
         → RanSoFar opening before
-        (stand (E.state exec.old) (C.coming clock.old) (K.sent sink.old) (K.write_faults sink.old) (K.refusals sink.old))
-        (S.left source.old) (S.read_faults source.old) frames.old taken
+        (stand (E.state exec.old) (C.coming clock.old) (L.sent link.old) (L.write_faults link.old) (L.refusals link.old))
+        (L.left link.old) (L.read_faults link.old) frames.old taken
         → TurnLeaves opening before
-        (stand (E.state exec.new) (C.coming clock.new) (K.sent sink.new) (K.write_faults sink.new) (K.refusals sink.new))
-        (S.left source.new) (S.read_faults source.new) frames.new taken result }
+        (stand (E.state exec.new) (C.coming clock.new) (L.sent link.new) (L.write_faults link.new) (L.refusals link.new))
+        (L.left link.new) (L.read_faults link.new) frames.new taken result }
 {
     reader_stands_for_a_unit();
-    match source.pull(buffer) {
-        Pull::Got(count) => match take_piece(frames, exec, clock, out, sink, &buffer[..count]) {
+    match link.pull(buffer) {
+        Pull::Got(count) => match take_piece(frames, exec, clock, link, &buffer[..count]) {
             Ok(()) => Turn::More(count),
+            Err(Stop::Quit) => Turn::Over(Status::Done),
             Err(Stop::LineTooLong) => Turn::Over(Status::LineTooLong),
-            Err(Stop::Unsent(Unsent::Failed)) => Turn::Over(Status::WriteFault),
-            Err(Stop::Unsent(Unsent::NoMemory)) => Turn::Over(Status::NoMemory),
+            Err(Stop::Failed) => Turn::Over(Status::WriteFault),
+            Err(Stop::NoMemory) => Turn::Over(Status::NoMemory),
         },
         Pull::End => Turn::Over(at_end(frames)),
         Pull::Failed => Turn::Over(Status::ReadFault),
@@ -74,28 +69,26 @@ fn at_end(frames: &Frames<KvHeads>) -> Status
     }
 }
 
-// Runs a session to its end. The frames and the outbox are fresh.
-fn serve<E: Executor, C: Clock, K: Sink, S: Source>(
+// Runs a session on a link to its end. The frames are fresh.
+fn serve<E: Executor, C: Clock, L: Link>(
     frames: &mut Frames<KvHeads>,
     exec: &mut E,
     clock: &mut C,
-    out: &mut Outbox,
-    sink: &mut K,
-    source: &mut S,
+    link: &mut L,
     buffer: &mut [u8],
 ) -> Status
     requires buffer { 0 < length buffer.old }
-    requires fresh { IsFresh frames.old out.old }
+    requires fresh { IsFresh frames.old }
     ensures { IsSession (E.state exec.old)
-        (outside (S.left source.old) (S.read_faults source.old) (K.sent sink.old) (K.write_faults sink.old) (K.refusals sink.old) (C.coming clock.old))
-        (outside (S.left source.new) (S.read_faults source.new) (K.sent sink.new) (K.write_faults sink.new) (K.refusals sink.new) (C.coming clock.new))
+        (outside (L.left link.old) (L.read_faults link.old) (L.sent link.old) (L.write_faults link.old) (L.refusals link.old) (C.coming clock.old))
+        (outside (L.left link.new) (L.read_faults link.new) (L.sent link.new) (L.write_faults link.new) (L.refusals link.new) (C.coming clock.new))
         result }
 {
     reader_stands_for_a_unit();
     let mut taken = 0u64;
     while taken < MAX_INPUT {
         let most = (MAX_INPUT - taken).min(buffer.len() as u64) as usize;
-        match pull_once(frames, exec, clock, out, sink, source, &mut buffer[..most]) {
+        match pull_once(frames, exec, clock, link, &mut buffer[..most]) {
             Turn::More(count) => taken += count as u64,
             Turn::Over(status) => return status,
         }
@@ -103,12 +96,65 @@ fn serve<E: Executor, C: Clock, K: Sink, S: Source>(
     Status::LongInput
 }
 
+// Runs a session on a source and a sink, which are given back, to its end. The frames are fresh.
+fn serve_pair<'a, 'b, S: Source, K: Sink, C: Clock, E: Executor, J: Joins>(
+    pair: Pair<'a, 'b, S, K>,
+    clock: &mut C,
+    exec: &mut E,
+    frames: &mut Frames<KvHeads>,
+    buffer: &mut [u8],
+) -> (Pair<'a, 'b, S, K>, Status)
+    requires buffer { 0 < length buffer.old }
+    requires fresh { IsFresh frames.old }
+    requires same_source { pair.source.ghost_name ≡ J.source }
+    requires same_sink { pair.sink.ghost_name ≡ J.sink }
+    ensures session { IsSession (E.state exec.old)
+        (outside (S.left pair.entry.source.now) (S.read_faults pair.entry.source.now) (K.sent pair.entry.sink.now) (K.write_faults pair.entry.sink.now) (K.refusals pair.entry.sink.now) (C.coming clock.old))
+        (outside (S.left result.0.source.now) (S.read_faults result.0.source.now) (K.sent result.0.sink.now) (K.write_faults result.0.sink.now) (K.refusals result.0.sink.now) (C.coming clock.new))
+        result.1 }
+    ensures same_source { result.0.source.ghost_name ≡ J.source }
+    ensures same_sink { result.0.sink.ghost_name ≡ J.sink }
+{
+    let mut link = JoinedLink::<'a, 'b, S, K, J>::of(pair);
+    let status = serve(frames, exec, clock, &mut link, buffer);
+    (link.parts(), status)
+}
+
 /// Runs one session from the source to the sink, on a cache of so many mebibytes, 1 to 4,096.
 ///
-/// It always returns. `Done` comes where the source has ended behind a unit and all text was sent; `CutInput` where it
-/// has ended within a unit; `LineTooLong`, `LongInput`, `ReadFault` and `WriteFault` as `Status` says; `NoMemory` where
-/// no byte was taken, or where the sink was refused memory.
+/// It always returns. `Done` comes where the source has ended behind a unit, or behind a line that is `quit`, and all
+/// text was sent; `CutInput` where the source has ended within a unit; `LineTooLong`, `LongInput`, `ReadFault` and
+/// `WriteFault` as `Status` says; `NoMemory` where no byte was taken, or where the sink was refused memory.
+///
+/// Input of whole units, to its end or to `quit`, of fewer than 2^40 bytes and without a line that is too long, is
+/// answered whole, where no pull and no push failed and memory was not refused. (That `quit` ends a session without an
+/// answer is memcached's rule. That a line that is too long does is this server's own.)
 pub fn session<S: Source, K: Sink, C: Clock>(
+    alloc: Global,
+    limit: u32,
+    source: &mut S,
+    sink: &mut K,
+    clock: &mut C,
+) -> Status
+    requires at_least { 1 ≤ limit }
+    requires at_most { limit ≤ 4096 }
+    ensures session { IsSession (opening_state (1048576 * limit))
+        (outside (S.left source.old) (S.read_faults source.old) (K.sent sink.old) (K.write_faults sink.old) (K.refusals sink.old) (C.coming clock.old))
+        (outside (S.left source.new) (S.read_faults source.new) (K.sent sink.new) (K.write_faults sink.new) (K.refusals sink.new) (C.coming clock.new))
+        result }
+    ensures complete { IsComplete
+        (outside (S.left source.old) (S.read_faults source.old) (K.sent sink.old) (K.write_faults sink.old) (K.refusals sink.old) (C.coming clock.old))
+        (outside (S.left source.new) (S.read_faults source.new) (K.sent sink.new) (K.write_faults sink.new) (K.refusals sink.new) (C.coming clock.new))
+        result }
+{
+    beginnings_agree();
+    rest_begins_with_no_unit();
+    units_stay();
+    run_session(alloc, limit, source, sink, clock)
+}
+
+// Takes the memory of a session, and runs it.
+fn run_session<S: Source, K: Sink, C: Clock>(
     alloc: Global,
     limit: u32,
     source: &mut S,
@@ -131,21 +177,18 @@ pub fn session<S: Source, K: Sink, C: Clock>(
     let Ok(mut frames) = Frames::new(alloc, KvHeads) else {
         return Status::NoMemory;
     };
-    let Ok(mut out) = Outbox::new(alloc) else {
-        return Status::NoMemory;
-    };
     let Ok(mut buffer) = zeros(alloc, PIECE_BYTES) else {
         return Status::NoMemory;
     };
-    serve(
-        &mut frames,
-        &mut cache,
+    let pair = Pair { source, sink };
+    let (_, status) = serve_pair::<S, K, C, Cache, Brand>(
+        pair,
         clock,
-        &mut out,
-        sink,
-        source,
+        &mut cache,
+        &mut frames,
         &mut buffer,
-    )
+    );
+    status
 }
 
 // So many bytes 0.

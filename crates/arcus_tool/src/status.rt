@@ -7,7 +7,7 @@ use std::fmt;
 /// How a job ends.
 #[derive(Clone, Copy, Debug, PartialEq, Eq)]
 pub enum Status {
-    /// The job came to its end.
+    /// The job came to its end. For a session: the source ended behind a unit, or a line was `quit`.
     Done,
     /// The words are none that the program knows; the first bad one stands at this place, counted from 0, or one is
     /// missing there.
@@ -20,7 +20,7 @@ pub enum Status {
     LongInput,
     /// The source ended within a unit, of which so many bytes came.
     CutInput(u64),
-    /// A line of a session has no end within 65,536 bytes.
+    /// A line of a session has no end within 65,536 bytes. The session answered it, and nothing is read behind it.
     LineTooLong,
     /// Memory was refused.
     NoMemory,

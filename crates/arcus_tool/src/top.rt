@@ -5,11 +5,9 @@ ghost use Rattle.arcus_tool.specs.Words.{Runs};
 
 use crate::sessions::session;
 use crate::status::Status;
+use crate::words::{BadWords, Job, read_words};
 use arc_core::{Clock, Sink, Source};
 use std::alloc::Global;
-
-/// The limit of the cache where the words name none, in mebibytes.
-const DEFAULT_LIMIT_MIB: u32 = 64;
 
 /// The outside that a job is given.
 #[derive(Drop)]
@@ -26,9 +24,9 @@ pub struct World<S, K, P, C> {
 
 /// Does what the words say, and tells how it ended. It always returns.
 ///
-/// The one job is `session`: one session from the source to the sink, on a cache of 64 MiB. `BadWords(0)` comes exactly
-/// where there is no word or the first is another, and `BadWords(1)` exactly where more words follow; nothing is done
-/// then. The other statuses are those of `session`.
+/// The one job is `session [--limit <MiB>]`: one session from the source to the sink, on a cache of so many mebibytes,
+/// 1 to 4,096, or 64. `BadWords` comes exactly where `read_words` gives it, and nothing is done then. The other statuses
+/// are those of `session`.
 pub fn run<S: Source, K: Sink, P, C: Clock>(
     alloc: Global,
     words: &[String],
@@ -39,22 +37,16 @@ pub fn run<S: Source, K: Sink, P, C: Clock>(
         (outside (S.left world.new.source) (S.read_faults world.new.source) (K.sent world.new.sink) (K.write_faults world.new.sink) (K.refusals world.new.sink) (C.coming world.new.clock))
         result }
 {
-    match words {
-        [] => Status::BadWords(0),
-        [command, more @ ..] => {
-            if command.as_str() != "session" {
-                return Status::BadWords(0);
-            }
-            if !more.is_empty() {
-                return Status::BadWords(1);
-            }
+    match read_words(words) {
+        Ok(Job::Session { limit }) => {
             let World {
                 source,
                 sink,
                 ports: _,
                 clock,
             } = world;
-            session(alloc, DEFAULT_LIMIT_MIB, source, sink, clock)
+            session(alloc, limit, source, sink, clock)
         }
+        Err(BadWords(place)) => Status::BadWords(place),
     }
 }

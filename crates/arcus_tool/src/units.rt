@@ -1,128 +1,172 @@
 //! Handles the units of a session.
-ghost use Rattle.std.specs.Prelude.{◌≡◌, ◌<◌, ◌≤◌, ℕ, List, [], ◌∷◌, length, IfOk, OnOk};
-ghost use Rattle.arc_core.specs.History.{Entry};
-ghost use Rattle.std.specs.Prelude.{IfSome};
+ghost use Rattle.std.specs.Prelude.{◌≡◌, ◌<◌, ◌≤◌, ◌^◌, ℕ, List, [], length, if◌then◌else◌, false, IfOk, IfSome, OnOk};
 ghost use Rattle.arc_core.specs.Framing.{IsSpan};
-ghost use Rattle.arc_core.specs.SessionText.{TellsUnit};
+ghost use Rattle.arc_core.specs.Grammar.{IsHead, IsBlockFor, line_needs, line_is_silent};
+ghost use Rattle.arc_core.specs.ReplyText.{reply_text, word_line};
+ghost use Rattle.arc_core.specs.SessionText.{sent_for};
 ghost use Rattle.frame_reader.specs.Units.{whole_of};
-ghost use Rattle.arc_core.specs.Grammar.{IsHead, IsBlockFor, line_needs, request_of};
-ghost use Rattle.arc_core.specs.ReplyText.{reply_text};
-ghost use Rattle.line_grammar.specs.PlainHead.{plain_head};
-ghost use Rattle.arcus_tool.specs.Handling.{Stand, stand, IsTold, TellsLine, TellsRequest, HasItsBlock, IsBetweenUnits, GoesOn, Takes, TakesAll};
+ghost use Rattle.line_grammar.specs.PlainHead.{plain_head, is_quit};
+ghost use Rattle.arcus_tool.specs.Output.{Sends, TookNothing};
+ghost use Rattle.arcus_tool.specs.Handling.{Stand, stand, IsTold, TellsHead, HasItsBlock, HandlesLine, HandlesUnit, IsBetweenUnits, GoesOn, Takes, TakesAll};
 
-use crate::output::{Outbox, Unsent};
-use crate::texts::{send_reply, send_word};
-use arc_core::{Clock, Executor, Sink, Word};
+use crate::stops::Stop;
+use arc_core::{Clock, Executor, Link, Reply, Word};
 use frame_reader::{Frames, Unit};
-use line_grammar::{Head, KvHeads, LineFault, read_line};
+use line_grammar::{BlockFault, Head, KvHeads, LineFault, read_line};
+use reply_print::{Wrote, write_reply};
 
-/// Why a session goes no further.
-#[derive(Clone, Copy, Debug, PartialEq, Eq)]
-pub enum Stop {
-    /// A text was not sent whole.
-    Unsent(Unsent),
-    /// A line is too long.
-    LineTooLong,
-}
-
-// Answers a line with its block, which is empty where the line asks for none.
-fn answer_line<E: Executor, C: Clock, K: Sink>(
-    exec: &mut E,
-    clock: &mut C,
-    out: &mut Outbox,
-    sink: &mut K,
-    line: &[u8],
-    block: &[u8],
-) -> Result<(), Unsent>
-    requires empty { out.old ≡ [] }
-    requires block { HasItsBlock line.now block.now }
-    ensures told { IsTold (TellsLine line.now block.now)
-        (stand (E.state exec.old) (C.coming clock.old) (K.sent sink.old) (K.write_faults sink.old) (K.refusals sink.old))
-        (stand (E.state exec.new) (C.coming clock.new) (K.sent sink.new) (K.write_faults sink.new) (K.refusals sink.new)) result }
-    ensures empty { OnOk result (out.new ≡ []) }
+// Sends the text of a reply, or nothing where no answer is to be sent.
+fn send<L: Link>(link: &mut L, reply: &Reply, silent: bool) -> Result<(), Stop>
+    requires { length (reply_text reply.now) < 2 ^ 64 }
+    ensures sends { Sends (L.sent link.old) (L.sent link.new) (L.write_faults link.old) (L.write_faults link.new)
+        (L.refusals link.old) (L.refusals link.new) (if silent then [] else reply_text reply.now) result }
+    ensures source { TookNothing (L.left link.old) (L.left link.new) (L.read_faults link.old) (L.read_faults link.new) }
 {
-    match read_line(line) {
-        Ok(head) => execute(exec, clock, out, sink, head, block),
-        Err(LineFault::Unknown) => send_word(sink, Word::Unknown),
-        Err(LineFault::BadFormat) => send_word(sink, Word::BadFormat),
+    if silent {
+        return Ok(());
+    }
+    match write_reply(reply, 0, link) {
+        Wrote::Done => Ok(()),
+        Wrote::Failed(_) => Err(Stop::Failed),
+        Wrote::NoMemory(_) => Err(Stop::NoMemory),
     }
 }
 
-// Executes the request of a head and its block at the clock's second, and sends its reply.
-fn execute<'a, E: Executor, C: Clock, K: Sink>(
-    exec: &mut E,
-    clock: &mut C,
-    out: &mut Outbox,
-    sink: &mut K,
-    head: Head<'a>,
-    block: &'a [u8],
-) -> Result<(), Unsent>
-    requires empty { out.old ≡ [] }
-    requires spelled { (line : List ℕ) × IsHead line (plain_head head) }
-    requires block { IsBlockFor (plain_head head).command block.now }
-    ensures told { IsTold (TellsRequest (request_of (plain_head head.entry) block.now))
-        (stand (E.state exec.old) (C.coming clock.old) (K.sent sink.old) (K.write_faults sink.old) (K.refusals sink.old))
-        (stand (E.state exec.new) (C.coming clock.new) (K.sent sink.new) (K.write_faults sink.new) (K.refusals sink.new)) result }
-    ensures empty { OnOk result (out.new ≡ []) }
+// Sends a word as a line, or nothing where no answer is to be sent.
+fn send_word<L: Link>(link: &mut L, word: Word, silent: bool) -> Result<(), Stop>
+    ensures sends { Sends (L.sent link.old) (L.sent link.new) (L.write_faults link.old) (L.write_faults link.new)
+        (L.refusals link.old) (L.refusals link.new) (if silent then [] else word_line word) result }
+    ensures source { TookNothing (L.left link.old) (L.left link.new) (L.read_faults link.old) (L.read_faults link.new) }
 {
-    let request = head.with_block(block);
-    let now = clock.second();
-    let reply = exec.execute(now, &request);
-    send_reply(out, sink, &reply)
+    send(link, &Reply::Word(word), silent)
 }
 
-// Answers a unit that is whole and no line that is too long.
-fn answer_unit<E: Executor, C: Clock, K: Sink>(
+// Whether the line asks that no answer be sent.
+fn is_silent(line: &[u8]) -> bool
+    ensures { result ≡ line_is_silent line.now }
+{
+    match read_line(line) {
+        Ok(head) => head.is_silent(),
+        Err(_) => false,
+    }
+}
+
+// Answers a unit of this line with a word of the session itself.
+fn answer_itself<L: Link>(link: &mut L, line: &[u8], word: Word) -> Result<(), Stop>
+    ensures sends { Sends (L.sent link.old) (L.sent link.new) (L.write_faults link.old) (L.write_faults link.new)
+        (L.refusals link.old) (L.refusals link.new) (sent_for line.now (word_line word)) result }
+    ensures source { TookNothing (L.left link.old) (L.left link.new) (L.read_faults link.old) (L.read_faults link.new) }
+{
+    let silent = is_silent(line);
+    send_word(link, word, silent)
+}
+
+// Executes the request of a head and its block at the clock's second, and answers. A block that is not the keys that
+// its line names is answered by the session.
+fn execute<'a, E: Executor, C: Clock, L: Link>(
     exec: &mut E,
     clock: &mut C,
-    out: &mut Outbox,
-    sink: &mut K,
+    link: &mut L,
+    head: Head<'a>,
+    block: &'a [u8],
+) -> Result<(), Stop>
+    requires spelled { (line : List ℕ) × IsHead line (plain_head head) }
+    requires block { IsBlockFor (plain_head head).command block.now }
+    requires goes_on { is_quit (plain_head head).command ≡ false }
+    ensures told { IsTold (TellsHead (plain_head head.entry) block.now)
+        (stand (E.state exec.old) (C.coming clock.old) (L.sent link.old) (L.write_faults link.old) (L.refusals link.old))
+        (stand (E.state exec.new) (C.coming clock.new) (L.sent link.new) (L.write_faults link.new) (L.refusals link.new)) result }
+    ensures source { TookNothing (L.left link.old) (L.left link.new) (L.read_faults link.old) (L.read_faults link.new) }
+{
+    let silent = head.is_silent();
+    match head.with_block(block) {
+        Ok(request) => {
+            let now = clock.second();
+            let reply = exec.execute(now, &request);
+            send(link, &reply, silent)
+        }
+        Err(BlockFault) => send_word(link, Word::BadChunk, silent),
+    }
+}
+
+// Answers a line with its block, which is empty where the line asks for none.
+fn answer_line<E: Executor, C: Clock, L: Link>(
+    exec: &mut E,
+    clock: &mut C,
+    link: &mut L,
+    line: &[u8],
+    block: &[u8],
+) -> Result<(), Stop>
+    requires { HasItsBlock line.now block.now }
+    ensures handles { HandlesLine line.now block.now
+        (stand (E.state exec.old) (C.coming clock.old) (L.sent link.old) (L.write_faults link.old) (L.refusals link.old))
+        (stand (E.state exec.new) (C.coming clock.new) (L.sent link.new) (L.write_faults link.new) (L.refusals link.new)) result }
+    ensures source { TookNothing (L.left link.old) (L.left link.new) (L.read_faults link.old) (L.read_faults link.new) }
+{
+    match read_line(line) {
+        Ok(head) => {
+            if head.is_quit() {
+                return Err(Stop::Quit);
+            }
+            execute(exec, clock, link, head, block)
+        }
+        Err(LineFault::Unknown) => send_word(link, Word::Unknown, false),
+        Err(LineFault::BadFormat) => send_word(link, Word::BadFormat, false),
+    }
+}
+
+// Answers a unit that is whole.
+fn answer_unit<E: Executor, C: Clock, L: Link>(
+    exec: &mut E,
+    clock: &mut C,
+    link: &mut L,
     unit: &Unit<'_>,
-) -> Result<(), Unsent>
-    requires empty { out.old ≡ [] }
-    requires whole { IfSome (whole_of unit.now) (λ whole. (span : List ℕ) × IsSpan line_needs span whole) }
-    ensures told { IfSome (whole_of unit.now) (λ whole. IsTold (TellsUnit whole)
-        (stand (E.state exec.old) (C.coming clock.old) (K.sent sink.old) (K.write_faults sink.old) (K.refusals sink.old))
-        (stand (E.state exec.new) (C.coming clock.new) (K.sent sink.new) (K.write_faults sink.new) (K.refusals sink.new)) result) }
-    ensures empty { OnOk result (out.new ≡ []) }
+) -> Result<(), Stop>
+    requires { IfSome (whole_of unit.now) (λ whole. (span : List ℕ) × IsSpan line_needs span whole) }
+    ensures handles { IfSome (whole_of unit.now) (λ whole. HandlesUnit whole
+        (stand (E.state exec.old) (C.coming clock.old) (L.sent link.old) (L.write_faults link.old) (L.refusals link.old))
+        (stand (E.state exec.new) (C.coming clock.new) (L.sent link.new) (L.write_faults link.new) (L.refusals link.new)) result) }
+    ensures source { TookNothing (L.left link.old) (L.left link.new) (L.read_faults link.old) (L.read_faults link.new) }
 {
     match unit {
-        Unit::Line(line) => answer_line(exec, clock, out, sink, line, b""),
-        Unit::LineWithBlock { line, block } => answer_line(exec, clock, out, sink, line, block),
-        Unit::BadChunk { .. } => send_word(sink, Word::BadChunk),
-        Unit::TooLarge { .. } => send_word(sink, Word::TooLarge),
-        Unit::BlockNoMemory { .. } => send_word(sink, Word::NoMemory),
-        Unit::LineTooLong | Unit::Wait => Ok(()),
+        Unit::Line(line) => answer_line(exec, clock, link, line, b""),
+        Unit::LineWithBlock { line, block } => answer_line(exec, clock, link, line, block),
+        Unit::BadChunk { line } => answer_itself(link, line, Word::BadChunk),
+        Unit::TooLarge { line } => answer_itself(link, line, Word::TooLarge),
+        Unit::BlockNoMemory { line } => answer_itself(link, line, Word::NoMemory),
+        Unit::LineTooLong => {
+            send_word(link, Word::LineTooLong, false).and(Err(Stop::LineTooLong))
+        }
+        Unit::Wait => Ok(()),
     }
 }
 
 // Takes bytes from the front of the piece until a unit is whole, and handles that unit. Tells how many were taken.
-fn take_unit<E: Executor, C: Clock, K: Sink>(
+fn take_unit<E: Executor, C: Clock, L: Link>(
     frames: &mut Frames<KvHeads>,
     exec: &mut E,
     clock: &mut C,
-    out: &mut Outbox,
-    sink: &mut K,
+    link: &mut L,
     piece: &[u8],
 ) -> Result<usize, Stop>
     requires some { 0 < length piece.now }
-    requires at_start { IsBetweenUnits frames.old out.old }
+    requires at_start { IsBetweenUnits frames.old }
     ensures count { IfOk result (λ count. (0 < count) × (count ≤ length piece.now)) }
-    ensures at_end { OnOk result (IsBetweenUnits frames.new out.new) }
+    ensures at_end { OnOk result (IsBetweenUnits frames.new) }
     ensures goes { (from : Stand) (taken : List ℕ) → GoesOn from
-        (stand (E.state exec.old) (C.coming clock.old) (K.sent sink.old) (K.write_faults sink.old) (K.refusals sink.old))
+        (stand (E.state exec.old) (C.coming clock.old) (L.sent link.old) (L.write_faults link.old) (L.refusals link.old))
         taken frames.old piece.now
         → Takes from
-        (stand (E.state exec.new) (C.coming clock.new) (K.sent sink.new) (K.write_faults sink.new) (K.refusals sink.new))
+        (stand (E.state exec.new) (C.coming clock.new) (L.sent link.new) (L.write_faults link.new) (L.refusals link.new))
         taken frames.new piece.now result }
+    ensures source { TookNothing (L.left link.old) (L.left link.new) (L.read_faults link.old) (L.read_faults link.new) }
 {
     let count = frames.feed(piece);
     match frames.unit() {
         Unit::Wait => return Ok(count),
-        Unit::LineTooLong => return Err(Stop::LineTooLong),
         unit => {
-            if let Err(cause) = answer_unit(exec, clock, out, sink, &unit) {
-                return Err(Stop::Unsent(cause));
+            if let Err(stop) = answer_unit(exec, clock, link, &unit) {
+                return Err(stop);
             }
         }
     }
@@ -133,28 +177,28 @@ fn take_unit<E: Executor, C: Clock, K: Sink>(
 /// Takes all bytes of a piece, and handles each unit that gets whole. What was taken of the next unit stays with the
 /// frames.
 ///
-/// `Unsent` comes where a text was not sent whole, and `LineTooLong` where a line is too long; the frames are of no
-/// use then.
-pub fn take_piece<E: Executor, C: Clock, K: Sink>(
+/// `Failed` and `NoMemory` come where a text was not sent whole, `LineTooLong` behind a line that is too long, and
+/// `Quit` behind `quit`; the frames are of no use then, and bytes behind that unit are passed over.
+pub fn take_piece<E: Executor, C: Clock, L: Link>(
     frames: &mut Frames<KvHeads>,
     exec: &mut E,
     clock: &mut C,
-    out: &mut Outbox,
-    sink: &mut K,
+    link: &mut L,
     piece: &[u8],
 ) -> Result<(), Stop>
-    requires { IsBetweenUnits frames.old out.old }
-    ensures at_end { OnOk result (IsBetweenUnits frames.new out.new) }
+    requires { IsBetweenUnits frames.old }
+    ensures at_end { OnOk result (IsBetweenUnits frames.new) }
     ensures goes { (from : Stand) (taken : List ℕ) → GoesOn from
-        (stand (E.state exec.old) (C.coming clock.old) (K.sent sink.old) (K.write_faults sink.old) (K.refusals sink.old))
+        (stand (E.state exec.old) (C.coming clock.old) (L.sent link.old) (L.write_faults link.old) (L.refusals link.old))
         taken frames.old piece.now
         → TakesAll from
-        (stand (E.state exec.new) (C.coming clock.new) (K.sent sink.new) (K.write_faults sink.new) (K.refusals sink.new))
+        (stand (E.state exec.new) (C.coming clock.new) (L.sent link.new) (L.write_faults link.new) (L.refusals link.new))
         taken frames.new result }
+    ensures source { TookNothing (L.left link.old) (L.left link.new) (L.read_faults link.old) (L.read_faults link.new) }
 {
     let mut rest = piece;
     while !rest.is_empty() {
-        let count = take_unit(frames, exec, clock, out, sink, rest)?;
+        let count = take_unit(frames, exec, clock, link, rest)?;
         rest = &rest[count..];
     }
     Ok(())

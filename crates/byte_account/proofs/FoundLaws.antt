@@ -62,7 +62,7 @@ module _ {X : Type 0} (key : List ℕ) where
         | false ↦ same ∙ sym (ap (λ b. cond b (Some place.1) (lookup (bytes_eq key) older)) e)
       ]
 
-  lookup-survivors : (n : ℕ) (shelf : List (List ℕ × X)) → lookup (bytes_eq key) (survivors key n shelf) ≡ lookup (bytes_eq key) shelf
+  pub lookup-survivors : (n : ℕ) (shelf : List (List ℕ × X)) → lookup (bytes_eq key) (survivors key n shelf) ≡ lookup (bytes_eq key) shelf
   lookup-survivors n [] = refl
   lookup-survivors n (place ∷ older) = survivors-own n place older (bytes_eq key place.0) refl (lookup-survivors n older)
 

@@ -1,5 +1,7 @@
 pub mod ByBytesLemmas
 pub mod ShelfLists
+pub mod SideLaws
+pub mod MovedLaws
 pub mod LruLemmas
 pub mod EvictionLemmas
 pub mod RoomLemmas

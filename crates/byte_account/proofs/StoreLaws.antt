@@ -20,7 +20,7 @@ module _ {X : Type 0} (key : List ℕ) where
   twice_at m h x q true = refl
   twice_at m h x q false = refl
 
-  insert-twice : (m : FinMap (slice_cmp nat_cmp) X) (h x : X) → finite.insert (finite.insert m key h) key x ≡ finite.insert m key x
+  pub insert-twice : (m : FinMap (slice_cmp nat_cmp) X) (h x : X) → finite.insert (finite.insert m key h) key x ≡ finite.insert m key x
   insert-twice m h x = same_map _ _ (λ q. get-insert (finite.insert m key h) key x q ∙ ap (cond (bytes_eq q key) (Some x)) (get-insert m key h q) ∙ twice_at m h x q (bytes_eq q key) ∙ sym (get-insert m key x q))
 
   gone_at : (m : FinMap (slice_cmp nat_cmp) X) (h : X) (q : List ℕ) (b : Bool) → cond b None (cond b (Some h) (finite.get m q)) ≡ cond b None (finite.get m q)
@@ -33,7 +33,7 @@ module _ {X : Type 0} (key : List ℕ) where
   insert_has : (m : FinMap (slice_cmp nat_cmp) X) (h : X) → finite.contains_key (finite.insert m key h) key ≡ true
   insert_has m h = ap is_some (get-insert m key h key ∙ ap (λ b. cond b (Some h) (finite.get m key)) (own_key key))
 
-  removed_none : (m : FinMap (slice_cmp nat_cmp) X) → finite.get (finite.remove m key) key ≡ None
+  pub removed_none : (m : FinMap (slice_cmp nat_cmp) X) → finite.get (finite.remove m key) key ≡ None
   removed_none m = get-remove m key key ∙ ap (λ b. cond b None (finite.get m key)) (own_key key)
 
   -- a new place that is filled afterwards
@@ -91,7 +91,7 @@ module _ {X : Type 0} (key : List ℕ) where
       let total : total_of weigh (placed sticky key h places) ≡ total_of weigh places = omega (arith, total-placed weigh sticky key h places once) in
       (λ i. shortest_suffix (λ suffix. fits (same_limit sticky h places i) (total i) extra (weight_of weigh suffix)) (others_placed sticky h places absent i))
 
-  set-twice : (h x : X) (shelf : List (List ℕ × X)) → set_value (bytes_eq key) (set_value (bytes_eq key) shelf h) x ≡ set_value (bytes_eq key) shelf x
+  pub set-twice : (h x : X) (shelf : List (List ℕ × X)) → set_value (bytes_eq key) (set_value (bytes_eq key) shelf h) x ≡ set_value (bytes_eq key) shelf x
   set-twice h x [] = refl
   set-twice h x (place ∷ older) = grind (arith, set-twice h x older)
 

@@ -5,4 +5,5 @@ pub mod Filled
 pub mod LeastEviction
 pub mod PlacesCode
 pub mod ShelfWords
+pub mod Sides
 pub mod Weight

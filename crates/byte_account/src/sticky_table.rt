@@ -54,6 +54,10 @@ impl<T: Weighs> StickyTable<T> {
     pub(crate) fn get(&self, key: &[u8]) -> Option<&Option<T>>
         ensures { option_copied result ≡ finite.get self.now key.now }
     {
+        // Where no item is sticky, as is common, no key is hashed.
+        if self.len() == 0 {
+            return None;
+        }
         self.table.get(key)
     }
 

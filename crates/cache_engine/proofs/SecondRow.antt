@@ -1,7 +1,6 @@
 -- A worked row: `set a 5 0 3` with the block `abc`, and then `get a`, at second 0 on an empty cache of 64 MiB.
-use Rattle.std.proofs.Common.{◌≡◌, ℕ, [], ◌∷◌, ◌++◌, Some, None, false, refl, ap, arith}
-use Rattle.std.specs.Prelude.{codes, pos}
-use Rattle.std.specs.Option.{option_map_or}
+use Rattle.std.proofs.Common.{◌≡◌, ℕ, List, [], ◌∷◌, ◌++◌, Some, None, false, pos, refl, ap, ◌∙◌, arith}
+use Rattle.std.specs.Prelude.{codes}
 use Rattle.std.proofs.lemmas.Fmt.{decimal_digit}
 use Rattle.arc_core.specs.declared.requests.Answer.TheVariants as answer
 use Rattle.arc_core.specs.declared.requests.StoreVerb.TheVariants as verb
@@ -10,62 +9,66 @@ use Rattle.arc_core.specs.declared.replies.Word.TheVariants as word
 use Rattle.arc_core.specs.declared.replies.ValueRow.{ValueRow}
 use Rattle.arc_core.specs.declared.items.Expiry.TheVariants as expiry
 use Rattle.arc_core.specs.declared.outside.Need.TheVariants as need
-use Rattle.arc_core.specs.Words.{words, number_below, key_word, keys_up_to}
+use Rattle.arc_core.specs.Words.{words, number_below, key_word, exptime_word, keys_up_to}
 use Rattle.arc_core.specs.KeyValueGrammar as grammar
-use Rattle.arc_core.specs.KeyValueGrammar.{set_row, get_row, zero_exptime}
+use Rattle.arc_core.specs.KeyValueGrammar.{store_row, get_row, noreply_word}
 use Rattle.arc_core.specs.Grammar.{head_of, line_needs, command_of}
 use Rattle.arc_core.specs.Item.{Item, key_value}
 use Rattle.arc_core.specs.PlainRequest.{PlainRequest, store, get}
 use Rattle.arc_core.specs.CacheState.{CacheState, opening_state, accounted}
-use Rattle.arc_core.specs.Step.{step, row_of_item}
+use Rattle.arc_core.specs.Step.{step, plan_of, carried_out, ended}
 use Rattle.arc_core.specs.ReplyText.{reply_text, line_end}
-use Rattle.cache_engine.specs.Held.{state_at}
-use Rattle.cache_engine.proofs.NoneSticky.{found_at, accounted_at}
-use Rattle.cache_engine.proofs.Stores.{puts}
+use Rattle.cache_engine.specs.Planning.{state_at}
+use Rattle.cache_engine.proofs.FirstItem.{only, starts, put_first, total_first}
 
 abbrev pub limit : ℕ
 limit = 67108864
+
+abbrev pub a : List ℕ
+a = codes "a"
 
 abbrev pub item : Item
 item = key_value 5 expiry.Never 1 (codes "abc")
 
 -- the state behind the `set`
 abbrev pub held : CacheState
-held = state_at ((codes "a", item) ∷ []) 0 1 limit
+held = state_at 0 1 (only a item limit)
 
 abbrev pub row : ValueRow
-row = record { key = codes "a"; flags = 5; unique = None; value = codes "abc" }
+row = record { key = a; flags = 5; unique = None; value = codes "abc" }
 
 abbrev pub set_a : PlainRequest
-set_a = record { act = store verb.Set (codes "a") 5 (pos 0) (codes "abc"); answer = answer.Plain }
+set_a = record { act = store verb.Set a 5 (pos 0) (codes "abc"); answer = answer.Plain }
 
 abbrev pub get_a : PlainRequest
-get_a = record { act = get (codes "a" ∷ []) false; answer = answer.Plain }
+get_a = record { act = get (a ∷ []) false; answer = answer.Plain }
 
 -- the lines spell the requests, and the first asks for its block
-pub set_is_spelled : head_of (words (codes "set a 5 0 3")) ≡ Some (record { command = grammar.store verb.Set (codes "a") 5 (pos 0) 3; answer = answer.Plain })
-unfolding command_of set_row zero_exptime number_below key_word
+pub set_is_spelled : head_of (words (codes "set a 5 0 3")) ≡ Some (record { command = grammar.store verb.Set a 5 (pos 0) 3; answer = answer.Plain })
+unfolding command_of store_row exptime_word number_below key_word noreply_word
 set_is_spelled = refl
 
-pub set_asks_for_a_block : line_needs (codes "set a 5 0 3") ≡ need.Block 3 131070
-unfolding command_of set_row zero_exptime number_below key_word
+pub set_asks_for_a_block : line_needs (codes "set a 5 0 3") ≡ need.Block 3 1048576
+unfolding command_of store_row exptime_word number_below key_word noreply_word
 set_asks_for_a_block = refl
 
-pub get_is_spelled : head_of (words (codes "get a")) ≡ Some (record { command = grammar.get (codes "a" ∷ []) false; answer = answer.Plain })
+pub get_is_spelled : head_of (words (codes "get a")) ≡ Some (record { command = grammar.get (a ∷ []) false; answer = answer.Plain })
 unfolding command_of get_row keys_up_to
 get_is_spelled = refl
 
 -- the item is stored, with the first cas unique
 pub set_is_stored : step (opening_state limit) 0 set_a ≡ (held, reply.Word word.Stored)
-set_is_stored = puts [] 0 0 limit (codes "a") item (reply.Word word.Stored) (omega arith)
+set_is_stored =
+    ap (λ start. ended start (a ∷ []) (carried_out start (plan_of start set_a.act))) (starts a 0 limit)
+    ∙ put_first a item limit 0 1 (reply.Word word.Stored) (omega arith) refl
 
 -- it is found, and nothing has changed
 pub get_finds_it : step held 0 get_a ≡ (held, reply.Values (row ∷ []))
-get_finds_it = ap (λ found. (held, reply.Values (option_map_or (λ one. row_of_item false (codes "a") one ∷ []) found []))) (found_at (codes "a") ((codes "a", item) ∷ []) 0 1 limit)
+get_finds_it = refl
 
 -- 64 bytes for the item, one for its key and three for its value are accounted
 pub set_is_accounted : accounted held ≡ 68
-set_is_accounted = accounted_at ((codes "a", item) ∷ []) 0 1 limit
+set_is_accounted = total_first a item limit
 
 -- what the client gets
 pub texts_of_row : reply_text (reply.Word word.Stored) ++ reply_text (reply.Values (row ∷ []))

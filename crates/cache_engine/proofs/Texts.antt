@@ -1,5 +1,6 @@
 -- How long the text of a reply may get.
 use Rattle.std.proofs.Common.{◌≡◌, ◌+◌, ◌*◌, ◌^◌, ◌/◌, ◌%◌, ◌≤◌, ◌<◌, ℕ, zero, suc, List, [], ◌∷◌, ◌++◌, length, Option, Some, None, Bool, true, false, cond, refl, arith, length-append}
+use Rattle.std.proofs.lemmas.Bool.Decides.{nat_tests}
 use Rattle.std.specs.Prelude.{◌==◌, codes, decimal}
 use Rattle.std.specs.Fmt.{digits, digits_onto, digit_glyph}
 use Rattle.std.specs.Option.{option_map_or}
@@ -13,7 +14,9 @@ use Rattle.arc_core.specs.declared.replies.Reply.TheVariants as reply
 use Rattle.arc_core.specs.Places.{Places, found}
 use Rattle.arc_core.specs.Step.{row_of_item, rows_of}
 use Rattle.arc_core.specs.ReplyText.{row_text, reply_text, line_end}
-use Rattle.cache_engine.proofs.Puts.{key_len}
+
+key_len : (key : List ℕ) → IsKey key → length key ≤ 16000
+key_len key is = grind (arith, nat_tests)
 
 either_long : (b : Bool) (xs ys : List ℕ) (n : ℕ) → length xs ≤ n → length ys ≤ n → length (cond b xs ys) ≤ n
 either_long true xs ys n p q = p
@@ -28,7 +31,7 @@ digits_long (suc k) base upper n more =
     (omega (arith, digits_long k base upper (n / base) (digit ∷ more)))
 
 -- a number has at most 64 digits
-decimal_long : (n : ℕ) → length (decimal n) ≤ 64
+pub decimal_long : (n : ℕ) → length (decimal n) ≤ 64
 unfolding digits
 decimal_long n = digits_long 64 10 false n []
 
@@ -60,3 +63,7 @@ rows_long unique places (key ∷ keys) ok are =
 pub retrieval_short : (unique : Bool) (places : Places Item) (keys : List (List ℕ)) → ((key : List ℕ) (item : Item) → found key places ≡ Some item → IsItem item) → AreKeys keys → length keys < 2 ^ 32 → length (reply_text (reply.Values (rows_of unique places keys))) < 2 ^ 64
 retrieval_short unique places keys ok are few =
     omega (arith, rows_long unique places keys ok are, length-append (flat_map row_text (rows_of unique places keys) ++ codes "END") line_end, length-append (flat_map row_text (rows_of unique places keys)) (codes "END"))
+
+-- and so is that of a number
+pub number_short : (n : ℕ) → length (reply_text (reply.Number n)) < 2 ^ 64
+number_short n = omega (arith, decimal_long n, length-append (decimal n) line_end)

@@ -1,1 +1,9 @@
-pub mod Held
+pub mod Stored
+pub mod Putting
+pub mod Retiming
+pub mod Changes
+pub mod Planning
+pub mod Starting
+pub mod Acting
+pub mod Retrieving
+pub mod Evicting

@@ -1,36 +1,44 @@
 //! The cache: the machine's state in memory.
-ghost use Rattle.std.specs.Prelude.{◌≡◌, ◌+◌, ◌*◌, ◌^◌, ◌<◌, ◌≤◌, ℕ, length, IfOk, ℤ};
-ghost use Rattle.arc_core.specs.CacheState.{CacheState, opening_state, accounted, IsState};
-ghost use Rattle.arc_core.specs.Places.{count_of};
-ghost use Rattle.arc_core.specs.Step.{next_unique};
+ghost use Rattle.std.specs.Prelude.{◌≡◌, ◌≤◌, ◌<◌, ◌^◌, max, ℤ, length, IfOk};
+ghost use Rattle.arc_core.specs.PlainRequest as act;
+ghost use Rattle.arc_core.specs.Places.{count_of, found};
+ghost use Rattle.arc_core.specs.CacheState.{ArePlaced, opening_state, accounted, IsState};
+ghost use Rattle.arc_core.specs.Step.{Plan, put};
 ghost use Rattle.arc_core.specs.ReplyText.{reply_text};
-ghost use Rattle.cache_engine.specs.Held.{Retrieves, Stores};
+ghost use Rattle.kv_items.specs.PlainItem.{plain_item};
+ghost use Rattle.cache_engine.specs.Planning.{Plans, IsShort};
+ghost use Rattle.cache_engine.specs.Starting.{standing_of};
+ghost use Rattle.cache_engine.specs.Acting.{Acts, Finishes, Tells};
 
-use crate::held::Held;
-use crate::retrieval::rows_under;
+use crate::expiring::expiry_at;
+use crate::items::Items;
+use crate::plans::{Planned, plan_count, plan_store};
+use crate::puts::Put;
+use crate::retrieval::{read_and_use, rows_under};
 use crate::settings::Settings;
-use crate::shelf::{Fill, Put, put_item};
-use arc_core::{Act, Executor, KeyRef, KeyWords, NoMemory, Reply, Request, StoreVerb, Value, Word};
+use crate::standing::{Standing, expire_and_use, live, put_and_use, standing_of, use_key};
+use arc_core::{Act, Executor, KeyRef, KeyWords, NoMemory, Reply, Request, StoreVerb, Word};
+use kv_items::KvItem;
 use std::alloc::Global;
 use std::marker::Model;
+
+#[cfg(test)]
+mod tests;
 
 /// A cache. Contracts see the state of the machine that it stands for.
 #[derive(Drop)]
 pub struct Cache {
     alloc: Global,
-    // The shelf, from its front on.
-    all: Vec<Held>,
-    // The stated sizes of all items, in bytes.
-    total: u64,
-    limit: u64,
+    items: Items,
+    // The latest second that an executed request came with.
     latest: u32,
+    // The cas counter.
     counter: u64,
 }
 
 impl Model for Cache {
-    ghost use Rattle.std.specs.Prelude.{◌≤◌, ◌<◌, ◌^◌};
+    ghost use Rattle.std.specs.Prelude.{◌<◌, ◌^◌};
     ghost use Rattle.arc_core.specs.CacheState.{CacheState};
-    ghost use Rattle.cache_engine.specs.Held.{state_at, shelf_of, IsCounted};
     ghost use Rattle.std.specs.FinMap as finite;
     ghost use Rattle.std.specs.Coded.{codes};
 
@@ -38,9 +46,9 @@ impl Model for Cache {
 
     ghost coded = { Prim.hlevel (codes, finite.code) };
 
-    ghost view = { λ cache. state_at (shelf_of cache.all.items) cache.latest cache.counter cache.limit };
+    ghost view = { λ cache. record { latest = cache.latest; counter = cache.counter; places = cache.items } };
 
-    ghost invariant = { λ cache. IsCounted cache.total cache.limit (shelf_of cache.all.items) × (cache.limit ≤ 4294967296) × (cache.latest < 2 ^ 32) };
+    ghost invariant = { λ cache. cache.latest < 2 ^ 32 };
 }
 
 impl Cache {
@@ -48,11 +56,10 @@ impl Cache {
     pub fn new(alloc: Global, settings: Settings) -> Result<Cache, NoMemory>
         ensures { IfOk result (λ cache. cache ≡ opening_state settings.limit) }
     {
+        let items = Items::new(alloc, settings.limit)?;
         Ok(Cache {
             alloc,
-            all: Vec::new(alloc),
-            total: 0,
-            limit: settings.limit,
+            items,
             latest: 0,
             counter: 0,
         })
@@ -65,65 +72,196 @@ impl Cache {
         // The held items keep their rules, and no key is held twice.
         ensures rules { IsState self.now }
     {
-        self.total
+        self.items.total()
     }
 
     /// How many items are held.
     pub fn items(&self) -> u64
         ensures { result ≡ count_of self.now.places }
     {
-        self.all.len() as u64
+        self.items.count()
     }
 
-    // Stores a value under the key. Nothing changes before the memory was taken and the room was found.
-    fn store(&mut self, now: u32, key: &KeyRef<'_>, flags: u32, bytes: &[u8]) -> Reply
-        requires { length bytes.now ≤ 131070 }
-        ensures { Stores self.old now key.now flags bytes.now result self.new }
+    // Answers with a word, and leaves the item as it is under a key that stands like this.
+    fn tell(&mut self, now: u32, key: &KeyRef<'_>, standing: Standing, word: Word) -> Reply
+        requires { standing ≡ standing_of (max self.old.latest now) (found key.now self.old.places) }
+        ensures tells { Tells self.old now key.now word result self.new }
+        ensures text { length (reply_text result) < 2 ^ 64 }
     {
-        let Ok(value) = Value::copy(self.alloc, bytes) else {
-            return Reply::Word(Word::NoMemory);
-        };
-        let unique = next(self.counter);
-        let fill = Fill {
-            flags,
-            unique,
-            value,
-        };
-        match put_item(self.alloc, &mut self.all, self.total, self.limit, key, fill) {
-            Put::Done(total) => {
-                self.total = total;
+        self.latest = self.latest.max(now);
+        use_key(&mut self.items, self.latest, key.bytes(), standing);
+        Reply::Word(word)
+    }
+
+    // Carries out what was planned for a key that stands like this.
+    fn carry_out(
+        &mut self,
+        now: u32,
+        key: &KeyRef<'_>,
+        standing: Standing,
+        planned: Planned,
+    ) -> Reply
+        requires standing { standing ≡ standing_of (max self.old.latest now) (found key.now self.old.places) }
+        requires placed { ArePlaced self.old.places }
+        requires short { IsShort planned }
+        ensures finishes { (plan : Plan) → Plans key.now plan planned → Finishes self.old now key.now plan result self.new }
+        ensures text { length (reply_text result) < 2 ^ 64 }
+    {
+        match planned {
+            Planned::NoMemory => Reply::Word(Word::NoMemory),
+            Planned::Tell(word) => self.tell(now, key, standing, word),
+            Planned::Put(item, answer) => self.put(now, key, standing, item, answer),
+        }
+    }
+
+    // Puts an item under a key that stands like this, where there is room.
+    fn put(
+        &mut self,
+        now: u32,
+        key: &KeyRef<'_>,
+        standing: Standing,
+        item: KvItem,
+        answer: Reply,
+    ) -> Reply
+        requires standing { standing ≡ standing_of (max self.old.latest now) (found key.now self.old.places) }
+        requires placed { ArePlaced self.old.places }
+        requires short { length (reply_text answer) < 2 ^ 64 }
+        ensures finishes { Finishes self.old now key.now (put key.now (plain_item item) item.unique answer) result self.new }
+        ensures text { length (reply_text result) < 2 ^ 64 }
+    {
+        let latest = self.latest.max(now);
+        let unique = item.unique;
+        match put_and_use(&mut self.items, latest, key, standing, item) {
+            Put::Done => {
+                self.latest = latest;
                 self.counter = unique;
-                self.latest = self.latest.max(now);
-                Reply::Word(Word::Stored)
+                answer
             }
             Put::NoRoom => {
-                self.latest = self.latest.max(now);
+                self.latest = latest;
                 Reply::Word(Word::OutOfMemory)
             }
             Put::NoMemory => Reply::Word(Word::NoMemory),
         }
     }
 
-    // Answers the items under the keys.
-    fn retrieve(&mut self, now: u32, keys: &KeyWords<'_>, unique: bool) -> Reply
-        ensures answer { Retrieves self.old now keys.now unique result self.new }
+    // Stores a value under the key, where the verb's condition holds.
+    fn store(
+        &mut self,
+        now: u32,
+        verb: StoreVerb,
+        key: &KeyRef<'_>,
+        flags: u32,
+        exptime: i64,
+        value: &[u8],
+    ) -> Reply
+        requires { length value.now ≤ 1048576 }
+        ensures acts { Acts self.old now (act.store verb key.now flags exptime value.now) result self.new }
         ensures text { length (reply_text result) < 2 ^ 64 }
     {
-        match rows_under(self.alloc, &self.all, keys, unique) {
-            Ok(rows) => {
-                self.latest = self.latest.max(now);
-                Reply::Values(rows)
+        let latest = self.latest.max(now);
+        let held = self.items.look(key.bytes());
+        let standing = standing_of(latest, held);
+        let held = live(latest, held);
+        let planned = plan_store(
+            self.alloc,
+            latest,
+            self.counter,
+            verb,
+            flags,
+            exptime,
+            value,
+            held,
+        );
+        self.carry_out(now, key, standing, planned)
+    }
+
+    // Counts up or down the number that the value under the key spells.
+    fn count(
+        &mut self,
+        now: u32,
+        up: bool,
+        key: &KeyRef<'_>,
+        delta: u64,
+        initial: Option<(u32, i64, u64)>,
+    ) -> Reply
+        ensures acts { Acts self.old now (act.count up key.now delta initial) result self.new }
+        ensures text { length (reply_text result) < 2 ^ 64 }
+    {
+        let latest = self.latest.max(now);
+        let held = self.items.look(key.bytes());
+        let standing = standing_of(latest, held);
+        let held = live(latest, held);
+        let planned = plan_count(self.alloc, latest, self.counter, up, delta, initial, held);
+        self.carry_out(now, key, standing, planned)
+    }
+
+    // Drops the item under the key.
+    fn delete(&mut self, now: u32, key: &KeyRef<'_>) -> Reply
+        ensures acts { Acts self.old now (act.delete key.now) result self.new }
+        ensures text { length (reply_text result) < 2 ^ 64 }
+    {
+        let latest = self.latest.max(now);
+        let standing = standing_of(latest, self.items.look(key.bytes()));
+        let Standing::Live = standing else {
+            return self.tell(now, key, standing, Word::NotFound);
+        };
+        self.latest = latest;
+        self.items.remove(key.bytes());
+        Reply::Word(Word::Deleted)
+    }
+
+    // Gives the item under the key another expiry.
+    fn touch(&mut self, now: u32, key: &KeyRef<'_>, exptime: i64) -> Reply
+        ensures acts { Acts self.old now (act.touch key.now exptime) result self.new }
+        ensures text { length (reply_text result) < 2 ^ 64 }
+    {
+        let latest = self.latest.max(now);
+        let standing = standing_of(latest, self.items.look(key.bytes()));
+        let Standing::Live = standing else {
+            return self.tell(now, key, standing, Word::NotFound);
+        };
+        let expiry = expiry_at(latest, exptime);
+        match expire_and_use(&mut self.items, latest, key.bytes(), expiry) {
+            Ok(()) => {
+                self.latest = latest;
+                Reply::Word(Word::Touched)
             }
-            Err(_) => Reply::Word(Word::NoMemory),
+            Err(NoMemory) => Reply::Word(Word::NoMemory),
         }
     }
-}
 
-// The value of the cas counter after this one: it begins again at 1.
-fn next(counter: u64) -> u64
-    ensures { result ≡ next_unique counter }
-{
-    if counter == u64::MAX { 1 } else { counter + 1 }
+    // Drops all items.
+    fn flush_all(&mut self, now: u32) -> Reply
+        ensures { Acts self.old now act.flush_all result self.new }
+    {
+        self.latest = self.latest.max(now);
+        self.items.clear();
+        Reply::Word(Word::Ok)
+    }
+
+    // Tells the server's version.
+    fn version(&mut self, now: u32) -> Reply
+        ensures { Acts self.old now act.version result self.new }
+    {
+        self.latest = self.latest.max(now);
+        Reply::Word(Word::Version)
+    }
+
+    // Answers the items under the keys.
+    fn retrieve(&mut self, now: u32, keys: &KeyWords<'_>, unique: bool) -> Reply
+        ensures acts { Acts self.old now (act.get keys.now unique) result self.new }
+        ensures text { length (reply_text result) < 2 ^ 64 }
+    {
+        self.items.rules();
+        let latest = self.latest.max(now);
+        let Ok(found) = rows_under(self.alloc, &self.items, latest, keys, unique) else {
+            return Reply::Word(Word::NoMemory);
+        };
+        self.latest = latest;
+        read_and_use(&mut self.items, latest, keys, found.late);
+        Reply::Values(found.rows)
+    }
 }
 
 impl Executor for Cache {
@@ -132,13 +270,23 @@ impl Executor for Cache {
     fn execute(&mut self, now: u32, request: &Request<'_>) -> Reply {
         match &request.act {
             Act::Store {
-                verb: StoreVerb::Set,
+                verb,
                 key,
                 flags,
-                exptime: _,
+                exptime,
                 value,
-            } => self.store(now, key, *flags, value),
+            } => self.store(now, *verb, key, *flags, *exptime, value),
             Act::Get { keys, unique } => self.retrieve(now, keys, *unique),
+            Act::Count {
+                up,
+                key,
+                delta,
+                initial,
+            } => self.count(now, *up, key, *delta, *initial),
+            Act::Delete { key } => self.delete(now, key),
+            Act::Touch { key, exptime } => self.touch(now, key, *exptime),
+            Act::FlushAll => self.flush_all(now),
+            Act::Version => self.version(now),
         }
     }
 }

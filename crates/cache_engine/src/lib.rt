@@ -2,10 +2,17 @@
 #![tactic(auto)]
 
 mod cache;
-mod held;
+mod expiring;
+mod items;
+mod laws;
+mod plans;
+mod puts;
+mod retiming;
 mod retrieval;
 mod settings;
-mod shelf;
+mod standing;
+mod stored;
 
 pub use cache::Cache;
+pub use laws::{eviction_is_least, step_keeps_the_rules};
 pub use settings::Settings;

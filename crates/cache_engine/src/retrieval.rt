@@ -1,60 +1,119 @@
-//! The rows that a retrieval answers.
-ghost use Rattle.std.specs.Prelude.{◌≡◌, ◌++◌, ◌∷◌, [], ℕ, IfOk, OnOk, bytes_eq, length, ◌<◌, ◌^◌};
-ghost use Rattle.std.specs.Option.{option_map};
-ghost use Rattle.std.specs.Map.{lookup};
-ghost use Rattle.arc_core.specs.Step.{rows_of};
+//! What a retrieval answers, and what it leaves.
+ghost use Rattle.std.specs.Prelude.{◌≡◌, ◌<◌, ◌^◌, ℕ, length, IfOk, OnOk};
+ghost use Rattle.arc_core.specs.Item.{Item};
+ghost use Rattle.arc_core.specs.Step.{row_of_item, unexpired, used};
 ghost use Rattle.arc_core.specs.Words.{AreKeys};
-ghost use Rattle.cache_engine.specs.Held.{item_of, places_at, shelf_of};
+ghost use Rattle.arc_core.specs.CacheState.{ArePlaced};
+ghost use Rattle.kv_items.specs.PlainItem.{plain_item};
+ghost use Rattle.cache_engine.specs.Retrieving.{live_rows, some_late, AreLive, ReadsKey};
 
-use crate::held::{Held, place_of_key};
-use arc_core::{KeyRef, KeyWords, NoMemory, Seq, ValueRow};
+use crate::items::Items;
+use crate::standing::{drop_expired, live, standing_of};
+use arc_core::{Key, KeyRef, KeyWords, NoMemory, Seq, ValueRow};
+use kv_items::KvItem;
 use std::alloc::Global;
 
-/// A row for each key under which an item is held, in the keys' order.
-///
-/// `NoMemory` comes for want of memory alone.
+/// What is read for a retrieval.
+#[derive(Drop)]
+pub struct Found {
+    /// A row for each key under which an item is held that has not expired, in the keys' order.
+    pub rows: Seq<ValueRow>,
+    /// Whether the item under one of the keys has expired.
+    pub late: bool,
+}
+
+/// Reads the items under the keys. Nothing changes. `NoMemory` comes for want of memory alone.
 pub fn rows_under(
     alloc: Global,
-    all: &[Held],
+    items: &Items,
+    latest: u32,
     keys: &KeyWords<'_>,
     unique: bool,
-) -> Result<Seq<ValueRow>, NoMemory>
-    ensures rows { IfOk result (λ rows. (limit : ℕ) → rows ≡ rows_of unique (places_at (shelf_of all.now) limit) keys.now) }
+) -> Result<Found, NoMemory>
+    ensures rows { IfOk result (λ read. read.rows ≡ live_rows unique latest items.now keys.now) }
+    ensures late { IfOk result (λ read. read.late ≡ some_late latest items.now keys.now) }
     ensures keys { OnOk result (AreKeys keys.now × (length keys.now < 2 ^ 32)) }
 {
     let mut rows = Seq::with_capacity(alloc, keys.count() as usize)?;
+    let mut late = false;
     for key in keys.iter() {
-        push_row(alloc, &mut rows, all, &key, unique)?;
+        let expired = read_key(alloc, &mut rows, items, latest, &key, unique)?;
+        late = late || expired;
     }
-    Ok(rows)
+    Ok(Found { rows, late })
 }
 
-// Adds the row of the item under the key, if one is held.
-fn push_row(
+// Puts the row of the item under the key last, if one is held that has not expired. Tells whether it has.
+fn read_key(
     alloc: Global,
     rows: &mut Seq<ValueRow>,
-    all: &[Held],
+    items: &Items,
+    latest: u32,
     key: &KeyRef<'_>,
     unique: bool,
-) -> Result<(), NoMemory>
-    ensures { OnOk result ((limit : ℕ) → rows.new ≡ rows.old ++ rows_of unique (places_at (shelf_of all.now) limit) (key.now ∷ [])) }
+) -> Result<bool, NoMemory>
+    ensures { ReadsKey unique latest items.now key.now rows.old rows.new result }
 {
-    let Some(held) = item_under(all, key.bytes()) else {
-        return Ok(());
+    let held = items.look(key.bytes());
+    let Some(item) = live(latest, held) else {
+        return Ok(held.is_some());
     };
-    let row = held.row(alloc, key, unique)?;
-    if rows.push(row).is_err() {
-        return Err(NoMemory);
+    let row = row_of(alloc, key, item, unique)?;
+    match rows.push(row) {
+        Ok(()) => Ok(false),
+        Err(_) => Err(NoMemory),
     }
-    Ok(())
 }
 
-// The item that is held under the key.
-fn item_under<'a>(all: &'a [Held], key: &[u8]) -> Option<&'a Held>
-    ensures { lookup (bytes_eq key.now) (shelf_of all.now) ≡ option_map (λ held. item_of held.now) result }
+// The row of an item under its key, with its cas unique where that was asked for.
+fn row_of(
+    alloc: Global,
+    key: &KeyRef<'_>,
+    item: &KvItem,
+    unique: bool,
+) -> Result<ValueRow, NoMemory>
+    ensures { IfOk result (λ row. row ≡ row_of_item unique key.now (plain_item item.now)) }
 {
-    match place_of_key(all, key) {
-        Some(place) => all.get(place),
-        None => None,
+    let value = item.value.share()?;
+    let key = Key::copy(alloc, KeyRef::of(key.bytes()))?;
+    Ok(ValueRow {
+        key,
+        flags: item.flags,
+        unique: if unique { Some(item.unique) } else { None },
+        value,
+    })
+}
+
+/// Takes the items under the keys away that have expired, of which there are some where `late` says so, and then marks the
+/// keys as used: a step that names these keys and leaves their items as they are.
+pub fn read_and_use(items: &mut Items, latest: u32, keys: &KeyWords<'_>, late: bool)
+    requires { late ≡ some_late latest items.old keys.now }
+    ensures { items.new ≡ used latest keys.now (unexpired latest keys.now items.old) }
+{
+    drop_expired_keys(items, latest, keys, late);
+    use_keys(items, latest, keys);
+}
+
+// Takes the items under the keys away that have expired, of which there are some where `late` says so.
+fn drop_expired_keys(items: &mut Items, latest: u32, keys: &KeyWords<'_>, late: bool)
+    requires { late ≡ some_late latest items.old keys.now }
+    ensures { items.new ≡ unexpired latest keys.now items.old }
+{
+    if !late {
+        return;
+    }
+    for key in keys.iter() {
+        let standing = standing_of(latest, items.look(key.bytes()));
+        drop_expired(items, latest, key.bytes(), standing);
+    }
+}
+
+// Marks the keys as used, one after another. No item under one of them has expired.
+fn use_keys(items: &mut Items, latest: u32, keys: &KeyWords<'_>)
+    requires { AreLive latest keys.now items.old }
+    ensures { items.new ≡ used latest keys.now items.old }
+{
+    for key in keys.iter() {
+        items.touch(key.bytes());
     }
 }

@@ -132,6 +132,14 @@ parsed needs span (whole.too_large text) of = inr (parsed_chunk needs span text 
 parsed needs span (whole.block_no_memory text) of = inr (parsed_chunk needs span text of.2 of.0 of.1 _ of.3 (refl, of.4, of.5.0))
 parsed needs span whole.line_too_long of = inl (refl, of.0, of.1)
 
+-- A span is not empty.
+pub span_length : (needs : List ℕ → Need) (span : List ℕ) (unit : Whole) → IsSpan needs span unit → 0 < length span
+span_length needs span unit of =
+    ⊎_elim
+    (λ long. omega (arith, long.1))
+    (λ p. omega (arith, ap length p.is, length-append p.body (10 ∷ p.chunk)))
+    (parsed needs span unit of)
+
 -- Two spans at the front of the same bytes are one, and their units agree.
 pub spans_agree : (needs : List ℕ → Need) (span span' more more' : List ℕ) (unit unit' : Whole) → span ++ more ≡ span' ++ more' → IsSpan needs span unit → IsSpan needs span' unit' → Agree unit unit' × (more ≡ more')
 spans_agree needs span span' more more' unit unit' e of of' =
@@ -181,7 +189,7 @@ Agree-too_long unit agree = ⊎_elim (λ same. sym same) (λ other. ⊎_elim (λ
     stands_in (whole.block_no_memory text) none = none
     stands_in whole.line_too_long none = none
 
-Agree-sym : (unit other : Whole) → Agree unit other → Agree other unit
+pub Agree-sym : (unit other : Whole) → Agree unit other → Agree other unit
 Agree-sym unit other agree = ⊎_elim (λ same. inl (sym same)) (λ stands. ⊎_elim (λ s. inr (inr s)) (λ s. inr (inl s)) stands) agree
 
 -- What is shorter than a block holds none.

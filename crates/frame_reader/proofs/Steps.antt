@@ -125,11 +125,12 @@ passing_ends needs body bytes more passed left unit long stands =
     passed_is unit len limit chunk behind whole cause = absurd cause
 
 -- No unit is ready in a phase that is not the last one.
-pub waits : (line block : List ℕ) (now : Phase) → ((of : Kind) → now ≡ phase.Ready of → ⊥) → None ≡ ready_unit (progress_of line block now)
-waits line block phase.InLine other = refl
-waits line block (phase.InBlock len) other = refl
-waits line block (phase.PassingOver passed left kind) other = refl
-waits line block (phase.Ready kind) other = absurd (other kind refl)
+pub waits : (line block large : List ℕ) (now : Phase) → ((of : Kind) → now ≡ phase.Ready of → ⊥) → None ≡ ready_unit (progress_of line block large now)
+waits line block large phase.InLine other = refl
+waits line block large (phase.InBlock len) other = refl
+waits line block large (phase.InLargeBlock len) other = refl
+waits line block large (phase.PassingOver passed left kind) other = refl
+waits line block large (phase.Ready kind) other = absurd (other kind refl)
 
 -- A list, by its front and what stands behind it.
 pub front_then : (all front rest : List ℕ) (n : ℕ) → front ≡ take n all → drop n all ≡ rest → all ≡ front ++ rest

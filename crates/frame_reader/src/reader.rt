@@ -18,7 +18,11 @@ use std::marker::Model;
 /// (This server's own; memcached ends a line with CR LF alone.)
 ///
 /// One unit is read at a time: `feed` takes bytes until it is ready, `unit` tells it, and `done` drops it. A block
-/// above its limit, or of more than 131,072 bytes with its CR LF, is passed over and not kept.
+/// above its limit is passed over and not kept.
+///
+/// A large block, of more than 131,072 bytes with its CR LF, has memory of its own, just as much as that, from the end
+/// of its line until `done` or `fresh` gives it back. Where it is refused the block is passed over too. So a reader
+/// never holds more than one large block, and a smaller one never lacks memory.
 ///
 /// Contracts see how far the reader is with its unit. `StandsFor` says which bytes it has taken of it since the last
 /// one was done.
@@ -29,6 +33,8 @@ pub struct Frames<G: Heads> {
     line: Vec<u8>,
     // The block's bytes; without its CR LF where the unit is ready.
     block: Vec<u8>,
+    // A large block's, in the same way. It has no memory in a line.
+    large: Vec<u8>,
     phase: Phase,
 }
 
@@ -40,16 +46,16 @@ impl<G: Heads> Model for Frames<G> {
 
     ghost use Rattle.frame_reader.specs.Buffers.{progress_of, LeavesRoom};
 
-    ghost view = { λ f. progress_of f.line.items f.block.items f.phase };
+    ghost view = { λ f. progress_of f.line.items f.block.items f.large.items f.phase };
 
-    // No buffer grows after `new`.
+    // Neither the line's buffer nor the block's grows after `new`.
     ghost invariant = { λ f. (65536 ≤ vec_capacity f.line) × (131072 ≤ vec_capacity f.block)
-        × LeavesRoom (vec_len f.line) (vec_len f.block) f.phase };
+        × LeavesRoom (vec_len f.line) (vec_len f.block) (vec_len f.large) (vec_capacity f.large) f.phase };
 }
 
 impl<G: Heads> Frames<G> {
-    /// A reader that has taken no byte. It takes 65,536 bytes of memory for a line and 131,072 for a block, and no
-    /// other call takes any. `NoMemory` comes for want of memory alone.
+    /// A reader that has taken no byte. It takes 65,536 bytes of memory for a line and 131,072 for a block. Of the
+    /// other calls only `feed` takes any. `NoMemory` comes for want of memory alone.
     pub fn new(alloc: Global, heads: G) -> Result<Frames<G>, NoMemory>
     where
         G: Drop,
@@ -62,6 +68,7 @@ impl<G: Heads> Frames<G> {
             heads,
             line,
             block,
+            large: Vec::new(alloc),
             phase: Phase::InLine,
         })
     }
@@ -69,6 +76,10 @@ impl<G: Heads> Frames<G> {
     /// Takes bytes from the front of the piece until a unit is ready, and tells how many.
     ///
     /// It takes the whole piece where no unit gets ready before its end, and nothing where one was ready already.
+    ///
+    /// Behind a line that asks for a large block within its limit it takes memory for that block, once. Where it is
+    /// refused the unit is `BlockNoMemory`, and the block and its CR LF are passed over whatever they are. Nothing else
+    /// takes memory here.
     pub fn feed(&mut self, piece: &[u8]) -> usize
         ensures within { result ≤ length piece.now }
         ensures stands { (bytes : List ℕ) → StandsFor G.needs self.old bytes
@@ -87,7 +98,7 @@ impl<G: Heads> Frames<G> {
     /// The unit that is ready, or `Wait` where none is.
     ///
     /// The bytes that were taken are the unit's span, or, where none is ready, an unfinished unit: they begin with no
-    /// whole one (`rest_begins_with_no_unit`).
+    /// whole one (`rest_begins_with_no_unit`). `BlockNoMemory` is for large blocks alone (`small_blocks_are_kept`).
     pub fn unit(&self) -> Unit<'_>
         ensures unit { whole_of result ≡ ready_unit self.now }
         ensures span { (bytes : List ℕ) → StandsFor G.needs self.now bytes
@@ -103,6 +114,10 @@ impl<G: Heads> Frames<G> {
                 line,
                 block: &self.block,
             },
+            Kind::LineWithLargeBlock => Unit::LineWithBlock {
+                line,
+                block: &self.large,
+            },
             Kind::BadChunk => Unit::BadChunk { line },
             Kind::TooLarge => Unit::TooLarge { line },
             Kind::BlockNoMemory => Unit::BlockNoMemory { line },
@@ -111,7 +126,7 @@ impl<G: Heads> Frames<G> {
     }
 
     /// Drops the unit that is ready, which may not be `LineTooLong`: nothing is read behind that. No byte of the next
-    /// unit is taken then.
+    /// unit is taken then, and the memory of a large block is given back.
     pub fn done(&mut self)
         requires ready { IsSome (ready_unit self.old) }
         requires goes_on { ready_unit self.old ≢ Some line_too_long }
@@ -131,18 +146,22 @@ impl<G: Heads> Frames<G> {
         match self.phase {
             Phase::InLine => line,
             Phase::InBlock { .. } => line + 1 + self.block.len() as u64,
+            Phase::InLargeBlock { .. } => line + 1 + self.large.len() as u64,
             Phase::PassingOver { passed, .. } => line + 1 + passed,
             Phase::Ready(_) => 0,
         }
     }
 
-    /// Goes back to a reader that has taken no byte, as `new` gives it, and keeps its memory.
+    /// Goes back to a reader that has taken no byte, as `new` gives it. It keeps the memory that `new` took, and gives
+    /// that of a large block back.
     pub fn fresh(&mut self)
         ensures stands { StandsFor G.needs self.new [] }
         ensures waits { ready_unit self.new ≡ None }
     {
         self.line.clear();
         self.block.clear();
+        self.large.clear();
+        self.large.shrink_to_fit();
         self.phase = Phase::InLine;
     }
 
@@ -156,8 +175,11 @@ impl<G: Heads> Frames<G> {
             → StandsFor G.needs self.new (bytes ++ take result piece.now) }
     {
         let (taken, phase) = match self.phase {
-            Phase::InLine => turns::take_line(&self.heads, &mut self.line, piece),
+            Phase::InLine => {
+                turns::take_line(&self.heads, &mut self.line, &mut self.large, piece)
+            }
             Phase::InBlock { len } => turns::take_block(&mut self.block, len, piece),
+            Phase::InLargeBlock { len } => turns::take_large_block(&mut self.large, len, piece),
             Phase::PassingOver { passed, left, kind } => {
                 turns::pass_over(passed, left, kind, piece)
             }

@@ -1,5 +1,5 @@
 //! Small streams cut at every place, and lines and blocks at their limits. The units are worked by hand.
-ghost use Rattle.std.specs.Prelude.{◌≡◌, None, IfOk, true};
+ghost use Rattle.std.specs.Prelude.{◌≡◌, ◌<◌, None, IfOk, true};
 ghost use Rattle.frame_reader.specs.Progress.{ready_unit};
 
 use crate::{Frames, Unit};
@@ -7,17 +7,20 @@ use arc_core::{Heads, Need};
 use std::alloc::{AllocError, Global};
 use std::test::Fail;
 
-// Three lines ask for blocks: one of 6 bytes, one of 4 bytes where 3 are the limit, and one of 131,071 bytes.
+// Five lines ask for blocks: one of 6 bytes, one of 4 bytes where 3 are the limit, the longest that needs no memory of its
+// own, one of a byte more, and one of 1,048,576 bytes.
 #[derive(Drop)]
-struct ThreeHeads;
+struct FiveHeads;
 
-impl Heads for ThreeHeads {
+impl Heads for FiveHeads {
     ghost use Rattle.std.specs.Prelude.{if◌then◌else◌, codes, bytes_eq};
     ghost use Rattle.arc_core.specs.declared.outside.Need.TheVariants.{Nothing, Block};
 
     ghost needs = { λ line. if bytes_eq line (codes "six") then Block 6 6
         else (if bytes_eq line (codes "four") then Block 4 3
-        else (if bytes_eq line (codes "most") then Block 131071 131071 else Nothing)) };
+        else (if bytes_eq line (codes "fits") then Block 131070 131070
+        else (if bytes_eq line (codes "large") then Block 131071 131071
+        else (if bytes_eq line (codes "value") then Block 1048576 1048576 else Nothing)))) };
 
     fn need(&self, line: &[u8]) -> Need {
         if line == b"six".as_slice() {
@@ -26,10 +29,22 @@ impl Heads for ThreeHeads {
         if line == b"four".as_slice() {
             return Need::Block { len: 4, limit: 3 };
         }
-        if line == b"most".as_slice() {
+        if line == b"fits".as_slice() {
+            return Need::Block {
+                len: 131_070,
+                limit: 131_070,
+            };
+        }
+        if line == b"large".as_slice() {
             return Need::Block {
                 len: 131_071,
                 limit: 131_071,
+            };
+        }
+        if line == b"value".as_slice() {
+            return Need::Block {
+                len: 1_048_576,
+                limit: 1_048_576,
             };
         }
         Need::Nothing
@@ -38,7 +53,7 @@ impl Heads for ThreeHeads {
 
 // Reads a piece and writes down each unit that gets ready. Tells whether the stream goes on.
 fn read(
-    frames: &mut Frames<ThreeHeads>,
+    frames: &mut Frames<FiveHeads>,
     piece: &[u8],
     seen: &mut Vec<u8>,
 ) -> Result<bool, AllocError>
@@ -79,12 +94,28 @@ fn note(seen: &mut Vec<u8>, kind: &[u8], bytes: &[u8]) -> Result<(), AllocError>
 
 // The units of a stream that comes in these two pieces.
 fn units_of(alloc: Global, front: &[u8], back: &[u8]) -> Result<Vec<u8>, Fail> {
-    let Ok(mut frames) = Frames::new(alloc, ThreeHeads) else {
+    let Ok(mut frames) = Frames::new(alloc, FiveHeads) else {
         return Err(Fail::from("no memory"));
     };
     let mut seen = Vec::new(alloc);
     if read(&mut frames, front, &mut seen)? {
         read(&mut frames, back, &mut seen)?;
+    }
+    Ok(seen)
+}
+
+// The units of a stream that comes in pieces of so many bytes.
+fn units_in_pieces(alloc: Global, stream: &[u8], size: usize) -> Result<Vec<u8>, Fail>
+    requires { 0 < size }
+{
+    let Ok(mut frames) = Frames::new(alloc, FiveHeads) else {
+        return Err(Fail::from("no memory"));
+    };
+    let mut seen = Vec::new(alloc);
+    for piece in stream.chunks(size) {
+        if !read(&mut frames, piece, &mut seen)? {
+            return Ok(seen);
+        }
     }
     Ok(seen)
 }
@@ -127,7 +158,52 @@ fn limits_are_exact(rt: HostRuntime) -> Result<(), Fail> {
     let seen = units_of(rt.alloc(), &longest, b"x\n")?;
     assert_eq!(rt; seen.as_slice(), b"line too long()".as_slice());
     let lines = many(rt.alloc(), b'\n', 131_074)?;
-    let seen = units_of(rt.alloc(), b"most\n", &lines)?;
-    assert_eq!(rt; seen.as_slice(), b"no memory(most)line()".as_slice());
+    let seen = units_of(rt.alloc(), b"large\n", &lines)?;
+    assert_eq!(rt; seen.as_slice(), b"bad chunk(large)line()".as_slice());
     Ok(())
+}
+
+#[test]
+fn large_blocks_are_kept(rt: HostRuntime) -> Result<(), Fail> {
+    let mut stream = Vec::new(rt.alloc());
+    let mut units = Vec::new(rt.alloc());
+    let rows: [(&[u8], usize, &[u8]); 7] = [
+        (b"large", 131_071, b"\r\n"),
+        (b"value", 1_048_576, b"\r\n"),
+        (b"fits", 131_070, b"\r\n"),
+        (b"value", 1_048_576, b"\r\r"),
+        (b"large", 131_071, b"\r\n"),
+        (b"six", 6, b"\r\n"),
+        (b"fits", 131_070, b"\n\n"),
+    ];
+    for (line, len, end) in rows {
+        let block = many(rt.alloc(), b'\n', len)?;
+        add_row(&mut stream, &mut units, line, &block, end)?;
+    }
+    stream.extend_from_slice(b"get a\n")?;
+    note(&mut units, b"line", b"get a")?;
+    for size in [4_194_304, 131_072, 999] {
+        let seen = units_in_pieces(rt.alloc(), &stream, size)?;
+        assert!(rt; seen.as_slice() == units.as_slice());
+    }
+    Ok(())
+}
+
+// Puts a line with this block, and these two bytes behind it, to the stream, and the unit that they are to the units.
+fn add_row(
+    stream: &mut Vec<u8>,
+    units: &mut Vec<u8>,
+    line: &[u8],
+    block: &[u8],
+    end: &[u8],
+) -> Result<(), AllocError> {
+    stream.extend_from_slice(line)?;
+    stream.extend_from_slice(b"\r\n")?;
+    stream.extend_from_slice(block)?;
+    stream.extend_from_slice(end)?;
+    if end != b"\r\n".as_slice() {
+        return note(units, b"bad chunk", line);
+    }
+    note(units, b"with block", line)?;
+    note(units, b"", block)
 }

@@ -13,7 +13,8 @@ pub enum Unit<'a> {
     BadChunk { line: &'a [u8] },
     /// A line whose block is above its limit, whatever the block's bytes are.
     TooLarge { line: &'a [u8] },
-    /// A line whose block has more than 131,072 bytes with its CR LF, for which there was no memory.
+    /// A line whose block has more than 131,072 bytes with its CR LF, for which there was no memory. The block is passed
+    /// over, whatever its bytes are.
     BlockNoMemory { line: &'a [u8] },
     /// 65,536 bytes without LF. Nothing is read behind them.
     LineTooLong,

@@ -1,2 +1,4 @@
+pub mod KeyValueRows
 pub mod LineLemmas
 pub mod RowLemmas
+pub mod Needs

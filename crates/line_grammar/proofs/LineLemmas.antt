@@ -1,32 +1,39 @@
 -- What the one answer to a line's words says of the line.
-use Rattle.std.proofs.Common.{◌≡◌, ℕ, List, [], ◌∷◌, refl, sym, ◌∙◌, ap, Option, Some, None, Result, Ok, Err}
+use Rattle.std.proofs.Common.{◌≡◌, ℕ, true, false, List, [], ◌∷◌, refl, sym, ◌∙◌, ap, Option, Some, None, Result, Ok, Err, inl, inr}
 use Rattle.std.specs.Result.{IfOk, IsOkAnd}
 use Rattle.arc_core.specs.Words.{words}
 use Rattle.arc_core.specs.PlainRequest.{PlainRequest}
 use Rattle.arc_core.specs.KeyValueGrammar as plain
-use Rattle.arc_core.specs.KeyValueGrammar.{set_row, get_row}
+use Rattle.arc_core.specs.declared.requests.StoreVerb.TheVariants as verb
 use Rattle.arc_core.specs.Rows.{Spells, row_read}
-use Rattle.arc_core.specs.Grammar.{CommandName, set_command, get_command, IsHead, IsBadFormat, SpellsRequest, request_of, command_of, row_of}
+use Rattle.arc_core.specs.Grammar.{CommandName, set_command, get_command, gets_command, mget_command, add_command, replace_command, append_command, prepend_command, cas_command, incr_command, decr_command, delete_command, touch_command, flush_all_command, version_command, quit_command, IsHead, IsUnknown, IsBadFormat, IsBadBlock, IsQuit, SpellsRequest, act_of, request_of, command_of, row_of}
 use Rattle.line_grammar.specs.declared.heads.Head.{Head}
 use Rattle.line_grammar.specs.declared.heads.LineFault.{LineFault}
 use Rattle.line_grammar.specs.declared.heads.LineFault.TheVariants.{BadFormat}
 use Rattle.line_grammar.specs.PlainHead.{plain_head}
 use Rattle.line_grammar.specs.Reading.{plain_answer, or_bad_format, answer_by, answer_to}
-use Rattle.line_grammar.proofs.RowLemmas.{IsClear, one-is_clear, all_left-is_clear, Spells-from_row_read, row_read-from_Spells}
+use Rattle.line_grammar.proofs.RowLemmas.{IsClear, Some-same, Spells-from_row_read, row_read-from_Spells}
+use Rattle.line_grammar.proofs.KeyValueRows.{store_row-is_clear, cas_row-is_clear, get_row-is_clear, mget_row-is_clear, count_row-is_clear, delete_row-is_clear, touch_row-is_clear, flush_all_row-is_clear}
 
 -- each row of the table is clear
 
-set_row-is_clear : IsClear set_row
-unfolding set_row
-set_row-is_clear = (one-is_clear _ _, λ key. (one-is_clear _ _, λ flags. (one-is_clear _ _, λ exptime. (one-is_clear _ _, λ len. tt))))
-
-get_row-is_clear : IsClear get_row
-unfolding get_row
-get_row-is_clear = (all_left-is_clear _ _, λ keys. tt)
-
 row_of-is_clear : (command : CommandName) → IsClear (row_of command)
-row_of-is_clear set_command = set_row-is_clear
-row_of-is_clear get_command = get_row-is_clear
+row_of-is_clear set_command = store_row-is_clear verb.Set
+row_of-is_clear add_command = store_row-is_clear verb.Add
+row_of-is_clear replace_command = store_row-is_clear verb.Replace
+row_of-is_clear append_command = store_row-is_clear verb.Append
+row_of-is_clear prepend_command = store_row-is_clear verb.Prepend
+row_of-is_clear cas_command = cas_row-is_clear
+row_of-is_clear get_command = get_row-is_clear false
+row_of-is_clear gets_command = get_row-is_clear true
+row_of-is_clear mget_command = mget_row-is_clear
+row_of-is_clear incr_command = count_row-is_clear true
+row_of-is_clear decr_command = count_row-is_clear false
+row_of-is_clear delete_command = delete_row-is_clear
+row_of-is_clear touch_command = touch_row-is_clear
+row_of-is_clear flush_all_command = flush_all_row-is_clear
+row_of-is_clear version_command = tt
+row_of-is_clear quit_command = tt
 
 -- a head is answered where the row spells one
 
@@ -57,12 +64,28 @@ answer-from_IsHead line head h =
 Ok-same : {A E : Type 0} (a b : A) → ◌≡◌ {A = Result A E} (Ok a) (Ok b) → a ≡ b
 Ok-same a b h = cc
 
-pub one_head : (line : List ℕ) (one other : plain.Head) → IsHead line one → IsHead line other → one ≡ other
-one_head line one other h k = Ok-same {E = LineFault} one other (sym (answer-from_IsHead line one h) ∙ answer-from_IsHead line other k)
+pub one_head : (line : List ℕ) (head other : plain.Head) → IsHead line head → IsHead line other → head ≡ other
+one_head line head other h k = Ok-same {E = LineFault} head other (sym (answer-from_IsHead line head h) ∙ answer-from_IsHead line other k)
 
-pub one_request : (line block : List ℕ) (one other : PlainRequest) → SpellsRequest line block one → SpellsRequest line block other → one ≡ other
-one_request line block one other h k =
-    h.3 ∙ ap (λ head. request_of head block) (one_head line h.0 k.0 h.1 k.1) ∙ sym k.3
+pub one_request : (line block : List ℕ) (request other : PlainRequest) → SpellsRequest line block request → SpellsRequest line block other → request ≡ other
+one_request line block request other h k =
+    Some-same request other (sym h.3 ∙ ap (λ head. request_of head block) (one_head line h.0 k.0 h.1 k.1) ∙ k.3)
+
+-- a line that ends the session spells no request, and nor does a line with keys that are not as many as it names
+
+None-is_no_Some : {A : Type 0} (a : A) → None ≡ Some a → ⊥
+None-is_no_Some a h = cc
+
+no_request : (line block : List ℕ) (request : PlainRequest) (head : plain.Head) → IsHead line head → act_of head.command block ≡ None
+    → SpellsRequest line block request → ⊥
+no_request line block request head h none k =
+    None-is_no_Some request (sym (rw none refl) ∙ ap (λ head. request_of head block) (one_head line head k.0 h k.1) ∙ k.3)
+
+pub quit_is_no_request : (line block : List ℕ) (request : PlainRequest) → IsQuit line → SpellsRequest line block request → ⊥
+quit_is_no_request line block request h k = no_request line block request h.0 h.1 (rw h.2 refl) k
+
+pub bad_block_is_no_request : (line block : List ℕ) (request : PlainRequest) → IsBadBlock line block → SpellsRequest line block request → ⊥
+bad_block_is_no_request line block request h k = no_request line block request h.0 h.3 (rw (h.4, h.6) refl) k
 
 -- the format is bad where the row spells no head
 
@@ -94,6 +117,20 @@ pub answer-from_IsBadFormat : (line : List ℕ) → IsBadFormat line → answer_
 answer-from_IsBadFormat line h =
     rw (h.2.words_are, h.2.is_command)
     (not_read (row_read (row_of h.0) h.1) (λ head read. h.3 head (Spells-from_row_read (row_of h.0) h.1 head read)))
+
+-- a line that spells a head has none of the faults
+
+same_words : (name word : List ℕ) (after behind : List (List ℕ)) (command : CommandName) → ◌≡◌ {A = List (List ℕ)} (name ∷ after) (word ∷ behind)
+    → command_of name ≡ Some command → command_of word ≡ None → ⊥
+same_words name word after behind command h known unknown = cc
+
+pub head_is_known : (line : List ℕ) (head : plain.Head) → IsHead line head → IsUnknown line → ⊥
+head_is_known line head h (inl none) = let e = sym none ∙ h.2.words_are in cc
+head_is_known line head h (inr unknown) =
+    same_words h.2.name unknown.0 h.1 unknown.1 h.0 (sym h.2.words_are ∙ unknown.2) h.2.is_command unknown.3
+
+pub head_is_well_formed : (line : List ℕ) (head : plain.Head) → IsHead line head → IsBadFormat line → ⊥
+head_is_well_formed line head h bad = let e = sym (answer-from_IsHead line head h) ∙ answer-from_IsBadFormat line bad in cc
 
 -- the clauses of a line's reading
 

@@ -1,13 +1,14 @@
 //! Heads: what a line spells.
-ghost use Rattle.std.specs.Prelude.{◌≡◌};
-ghost use Rattle.arc_core.specs.Grammar.{need_of, request_of};
+ghost use Rattle.std.specs.Prelude.{◌≡◌, false, option_map};
+ghost use Rattle.std.specs.Result.{result_ok};
+ghost use Rattle.arc_core.specs.Grammar.{need_of, request_of, is_silent};
 ghost use Rattle.arc_core.specs.PlainRequest.{plain};
-ghost use Rattle.line_grammar.specs.PlainHead.{plain_command, plain_head, is_quit, is_silent};
+ghost use Rattle.line_grammar.specs.PlainHead.{plain_command, plain_head, is_quit};
 
 use arc_core::{Act, Answer, KeyRef, KeyWords, Need, Request, StoreVerb};
 
-/// The most bytes of the value of a storing command.
-const VALUE_LIMIT: u32 = 131_070;
+/// The most bytes of the value of a storing command, and of a block of keys.
+const BLOCK_LIMIT: u32 = 1_048_576;
 
 /// What a line asks for: a request, less the block. It borrows the line.
 #[derive(Drop)]
@@ -25,6 +26,34 @@ pub enum Command<'a> {
         keys: KeyWords<'a>,
         unique: bool,
     },
+    /// Reads the values of keys that stand in the block, of `len` bytes, and are so many.
+    GetBlock {
+        len: u32,
+        number: u32,
+    },
+    /// Adds to the number that a value spells, or takes from it where `up` is false. `initial` has the client flags, the
+    /// exptime and the number of the item that is made where none is held.
+    Count {
+        up: bool,
+        key: KeyRef<'a>,
+        delta: u64,
+        initial: Option<(u32, i64, u64)>,
+    },
+    /// Drops the item.
+    Delete {
+        key: KeyRef<'a>,
+    },
+    /// Gives the item another expiry.
+    Touch {
+        key: KeyRef<'a>,
+        exptime: i64,
+    },
+    /// Drops all items.
+    FlushAll,
+    /// Asks for the server's version.
+    Version,
+    /// Ends the session.
+    Quit,
 }
 
 /// What a line spells: a command, and how its answer is sent. It borrows the line.
@@ -43,17 +72,22 @@ pub enum LineFault {
     BadFormat,
 }
 
+/// The block's words are not so many keys as its line names.
+#[derive(Clone, Copy, Debug, PartialEq, Eq)]
+pub struct BlockFault;
+
 impl<'a> Head<'a> {
-    /// Which block follows the line: that of a storing command has the bytes that it names, 131,070 at most.
+    /// Which block follows the line: that of a storing command, or of one whose keys stand in a block, has the bytes that
+    /// it names, 1,048,576 at most.
     pub fn need(&self) -> Need
         ensures { result ≡ need_of (plain_head self.now).command }
     {
         match self.command {
-            Command::Store { len, .. } => Need::Block {
+            Command::Store { len, .. } | Command::GetBlock { len, .. } => Need::Block {
                 len,
-                limit: VALUE_LIMIT,
+                limit: BLOCK_LIMIT,
             },
-            Command::Get { .. } => Need::Nothing,
+            _ => Need::Nothing,
         }
     }
 
@@ -62,7 +96,8 @@ impl<'a> Head<'a> {
         ensures { result ≡ is_quit (plain_head self.now).command }
     {
         match self.command {
-            Command::Store { .. } | Command::Get { .. } => false,
+            Command::Quit => true,
+            _ => false,
         }
     }
 
@@ -72,13 +107,17 @@ impl<'a> Head<'a> {
     {
         match self.answer {
             Answer::Plain => false,
+            Answer::NoReply => true,
         }
     }
 
-    /// The request of this head and the block that follows its line. It borrows both. (The block is not read: that it is
-    /// the one that the head needs is its reader's part.)
-    pub fn with_block(self, block: &'a [u8]) -> Request<'a>
-        ensures { plain result ≡ request_of (plain_head self.entry) block.now }
+    /// The request of this head, which may not be `quit`, and the block that follows its line. It borrows both.
+    ///
+    /// The fault comes exactly where the command asks for a block of keys, and the block's words are not so many keys.
+    /// (That the block has the length that the head names is its reader's part.)
+    pub fn with_block(self, block: &'a [u8]) -> Result<Request<'a>, BlockFault>
+        requires { is_quit (plain_head self).command ≡ false }
+        ensures { option_map plain (result_ok result) ≡ request_of (plain_head self.entry) block.now }
     {
         let Head { command, answer } = self;
         let act = match command {
@@ -96,7 +135,27 @@ impl<'a> Head<'a> {
                 value: block,
             },
             Command::Get { keys, unique } => Act::Get { keys, unique },
+            Command::GetBlock { len: _, number } => Act::Get {
+                keys: KeyWords::read(block, number).ok_or(BlockFault)?,
+                unique: false,
+            },
+            Command::Count {
+                up,
+                key,
+                delta,
+                initial,
+            } => Act::Count {
+                up,
+                key,
+                delta,
+                initial,
+            },
+            Command::Delete { key } => Act::Delete { key },
+            Command::Touch { key, exptime } => Act::Touch { key, exptime },
+            Command::FlushAll => Act::FlushAll,
+            Command::Version => Act::Version,
+            Command::Quit => unreachable!(),
         };
-        Request { act, answer }
+        Ok(Request { act, answer })
     }
 }

@@ -11,5 +11,8 @@ mod parts;
 #[cfg(test)]
 mod tests;
 
-pub use heads::{Command, Head, LineFault};
-pub use lines::{KvHeads, line_spells_one_head, read_line};
+pub use heads::{BlockFault, Command, Head, LineFault};
+pub use lines::{
+    KvHeads, bad_block_is_no_request, head_is_no_fault, line_spells_one_head, quit_is_no_request,
+    read_line,
+};

@@ -6,7 +6,7 @@ use Rattle.arcus_tool.proofs.sessions.serve.Goals as goal
 pub loop-taken-init : goal.loop-taken-init
 loop-taken-init g c = record {
   few = omega arith;
-  between = record { waits = c.requires.fresh.waits; empty = c.requires.fresh.empty; tail = []; stands = c.requires.fresh.stands };
+  between = record { waits = c.requires.fresh.waits; tail = []; stands = c.requires.fresh.stands };
   ran = ([], refl, ran_nowhere _ _ c.args.frames.now c.requires.fresh.stands);
 }
 

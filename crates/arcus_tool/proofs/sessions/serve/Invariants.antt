@@ -8,15 +8,14 @@ abbrev pub invariant-loop-taken : goal.invariant-loop-taken
 invariant-loop-taken g l =
     let exec = g.E.Executor in
     let clock = g.C.Clock in
-    let sink = g.K.Sink in
-    let source = g.S.Source in
+    let link = g.L.Link in
     record {
       few : l.taken ≤ 2 ^ 40;
-      between : IsBetweenUnits l.frames l.out;
+      between : IsBetweenUnits l.frames;
       ran : (bytes : List ℕ) × (length bytes ≡ l.taken) × RanSoFar (exec.state l.fn.exec)
-          (outside (source.left l.fn.source) (source.read_faults l.fn.source) (sink.sent l.fn.sink) (sink.write_faults l.fn.sink) (sink.refusals l.fn.sink) (clock.coming l.fn.clock))
-          (stand (exec.state l.exec) (clock.coming l.clock) (sink.sent l.sink) (sink.write_faults l.sink) (sink.refusals l.sink))
-          (source.left l.source) (source.read_faults l.source) l.frames bytes;
+          (outside (link.left l.fn.link) (link.read_faults l.fn.link) (link.sent l.fn.link) (link.write_faults l.fn.link) (link.refusals l.fn.link) (clock.coming l.fn.clock))
+          (stand (exec.state l.exec) (clock.coming l.clock) (link.sent l.link) (link.write_faults l.link) (link.refusals l.link))
+          (link.left l.link) (link.read_faults l.link) l.frames bytes;
     }
 
 abbrev pub decreases-loop-taken : goal.decreases-loop-taken

@@ -1,14 +1,5 @@
-use Rattle.arcus_tool.proofs.Beginning.{never_began}
+use Rattle.arcus_tool.proofs.Completeness.{is_complete}
 use Rattle.arcus_tool.proofs.sessions.session.Goals as goal
 
-pub returns-in_default-new : goal.returns-in_default-new
-returns-in_default-new g c = never_began _ _
-
-pub returns-in_default-new-2 : goal.returns-in_default-new-2
-returns-in_default-new-2 g c = never_began _ _
-
-pub returns-in_default-new-3 : goal.returns-in_default-new-3
-returns-in_default-new-3 g c = never_began _ _
-
-pub returns-in_default-zeros : goal.returns-in_default-zeros
-returns-in_default-zeros g c = never_began _ _
+pub returns-clause-complete : goal.returns-clause-complete
+returns-clause-complete g c = is_complete c.beginnings_agree.ensures c.rest_begins_with_no_unit.ensures c.units_stay.ensures _ _ _ _ c.run_session.ensures

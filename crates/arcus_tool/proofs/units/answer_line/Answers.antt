@@ -1,23 +1,31 @@
-use Rattle.std.proofs.Common.{◌∙◌, ap, refl, inl, inr, Err}
+use Rattle.std.proofs.Common.{◌∙◌, ap, refl, sym, inl, inr, Err}
 use Rattle.arc_core.specs.declared.replies.Word.TheVariants as word
 use Rattle.line_grammar.specs.PlainHead.{plain_head}
-use Rattle.arcus_tool.proofs.Telling.{told_head, told_fault, block_for}
+use Rattle.arcus_tool.proofs.Telling.{handles_quit, quits_by, handles_head, handles_fault, block_for}
 use Rattle.arcus_tool.proofs.units.answer_line.Goals as goal
 
-pub returns-in-Ok-clause-told : goal.returns-in-Ok-clause-told
-returns-in-Ok-clause-told g c =
-    let head = plain_head c.in-Ok.head in
-    told_head _ _ c.args.line.now c.args.block.now head c.execute.result c.in-Ok.ensures.found (block_for head.command c.args.line.now c.args.block.now c.in-Ok.ensures.needs c.requires.block) c.execute.ensures.told
+pub returns-then-is_quit-clause-handles : goal.returns-then-is_quit-clause-handles
+returns-then-is_quit-clause-handles g c =
+    let line = c.args.line.now in
+    let known = c.in-Ok.ensures in
+    handles_quit _ line c.args.block.now (quits_by line (plain_head c.in-Ok.head) known.found known.needs (sym c.is_quit.ensures ∙ c.if-is_quit.true))
 
-pub returns-in-Err-Unknown-clause-told : goal.returns-in-Err-Unknown-clause-told
-returns-in-Err-Unknown-clause-told g c =
+pub returns-else-is_quit-clause-handles : goal.returns-else-is_quit-clause-handles
+returns-else-is_quit-clause-handles g c =
+    let line = c.args.line.now in
+    let known = c.in-Ok.ensures in
+    handles_head _ _ line c.args.block.now (plain_head c.in-Ok.head) known.found known.needs c.execute.result (block_for _ line c.args.block.now known.needs c.requires) known.silent
+    (sym c.is_quit.ensures ∙ c.if-is_quit.false) known.only c.execute.ensures.told
+
+pub returns-in-Err-Unknown-clause-handles : goal.returns-in-Err-Unknown-clause-handles
+returns-in-Err-Unknown-clause-handles g c =
     let fault = c.in-Err-Unknown in
     let unknown = c.read_line.ensures.unknown.0 (fault.is ∙ ap Err fault.field-0-is) in
-    told_fault _ _ c.args.line.now c.args.block.now word.Unknown c.send_word.result (inl (unknown, refl)) fault.ensures.needs refl refl c.send_word.ensures
+    handles_fault _ _ c.args.line.now c.args.block.now word.Unknown c.send_word.result (inl (fault.ensures.needs, inl (unknown, refl))) fault.ensures.silent fault.ensures.only refl refl c.send_word.ensures.sends
 
-pub returns-in-Err-BadFormat-clause-told : goal.returns-in-Err-BadFormat-clause-told
-returns-in-Err-BadFormat-clause-told g c =
+pub returns-in-Err-BadFormat-clause-handles : goal.returns-in-Err-BadFormat-clause-handles
+returns-in-Err-BadFormat-clause-handles g c =
     let fault = c.in-Err-BadFormat in
     let sends = c.send_word-in-Err-BadFormat in
     let bad = c.read_line.ensures.bad_format.0 (fault.is ∙ ap Err fault.field-0-is) in
-    told_fault _ _ c.args.line.now c.args.block.now word.BadFormat sends.result (inr (bad, refl)) fault.ensures.needs refl refl sends.ensures
+    handles_fault _ _ c.args.line.now c.args.block.now word.BadFormat sends.result (inl (fault.ensures.needs, inr (bad, refl))) fault.ensures.silent fault.ensures.only refl refl sends.ensures.sends

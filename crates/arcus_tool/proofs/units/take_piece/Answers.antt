@@ -1,7 +1,7 @@
 use Rattle.std.proofs.Common.{subst}
 use Rattle.std.proofs.lemmas.Result.{err_from_is_err_and}
 use Rattle.arcus_tool.specs.Handling.{GoesOn}
-use Rattle.arcus_tool.proofs.Sending.{take_rest, is_empty_list}
+use Rattle.arcus_tool.proofs.Sending.{take_rest, is_empty_list, took_nothing_on}
 use Rattle.arcus_tool.proofs.units.take_piece.Goals as goal
 
 pub returns-in_err-count-clause-goes : goal.returns-in_err-count-clause-goes
@@ -14,6 +14,7 @@ loop-rest-preserved g c = record {
   between = c.in_ok-count.ensures.at_end;
   goes = λ from taken went.
       rw (take_rest c.loop-rest.rest.now c.in_ok-count.count) (c.in_ok-count.ensures.goes from taken (c.loop-rest.invariant.goes from taken went));
+  source = took_nothing_on _ _ _ _ _ _ c.loop-rest.invariant.source c.in_ok-count.ensures.source;
 }
 
 pub returns-clause-goes : goal.returns-clause-goes

@@ -1,4 +1,5 @@
 use Rattle.std.proofs.Common.{List, ℕ, length}
+use Rattle.arcus_tool.specs.Output.{TookNothing}
 use Rattle.arcus_tool.specs.Handling.{Stand, stand, GoesOn, IsBetweenUnits}
 use Rattle.arcus_tool.proofs.units.take_piece.Given as goal
 
@@ -7,11 +8,12 @@ abbrev pub invariant-loop-rest : goal.invariant-loop-rest
 invariant-loop-rest g l =
     let exec = g.E.Executor in
     let clock = g.C.Clock in
-    let sink = g.K.Sink in
+    let link = g.L.Link in
     record {
-      between : IsBetweenUnits l.frames l.out;
-      goes : (from : Stand) (taken : List ℕ) → GoesOn from (stand (exec.state l.fn.exec) (clock.coming l.fn.clock) (sink.sent l.fn.sink) (sink.write_faults l.fn.sink) (sink.refusals l.fn.sink)) taken l.fn.frames l.piece
-          → GoesOn from (stand (exec.state l.exec) (clock.coming l.clock) (sink.sent l.sink) (sink.write_faults l.sink) (sink.refusals l.sink)) taken l.frames l.rest;
+      between : IsBetweenUnits l.frames;
+      goes : (from : Stand) (taken : List ℕ) → GoesOn from (stand (exec.state l.fn.exec) (clock.coming l.fn.clock) (link.sent l.fn.link) (link.write_faults l.fn.link) (link.refusals l.fn.link)) taken l.fn.frames l.piece
+          → GoesOn from (stand (exec.state l.exec) (clock.coming l.clock) (link.sent l.link) (link.write_faults l.link) (link.refusals l.link)) taken l.frames l.rest;
+      source : TookNothing (link.left l.fn.link) (link.left l.link) (link.read_faults l.fn.link) (link.read_faults l.link);
     }
 
 abbrev pub decreases-loop-rest : goal.decreases-loop-rest

@@ -1,9 +1,12 @@
-use Rattle.std.proofs.Common.{◌≡◌, ◌++◌, ℕ}
-use Rattle.arc_core.specs.Step.{rows_of}
-use Rattle.cache_engine.specs.Held.{places_at, shelf_of}
+use Rattle.std.proofs.Common.{◌≡◌, ◌++◌}
+use Rattle.std.specs.Prelude.{◌||◌}
+use Rattle.cache_engine.specs.Retrieving.{live_rows, some_late}
 use Rattle.cache_engine.proofs.retrieval.rows_under.Given as goal
 
--- the rows so far, and those of the keys that are left, are those of all keys
+-- the rows so far, and those of the keys that are left, are those of all keys; so is it with the expired items
 abbrev pub invariant-loop-key : goal.invariant-loop-key
 invariant-loop-key l =
-    (limit : ℕ) → l.rows ++ rows_of l.unique (places_at (shelf_of l.all) limit) l.key-iterator ≡ rows_of l.unique (places_at (shelf_of l.all) limit) l.keys
+    record {
+      rows : l.rows ++ live_rows l.unique l.latest l.items l.key-iterator ≡ live_rows l.unique l.latest l.items l.keys;
+      late : (l.late || some_late l.latest l.items l.key-iterator) ≡ some_late l.latest l.items l.keys;
+    }

@@ -1,18 +1,21 @@
-use Rattle.std.proofs.Common.{◌≡◌, ◌<◌, ◌^◌, ◌∙◌, ap, sym, subst, length}
-use Rattle.arc_core.specs.declared.replies.Reply.TheVariants as reply
-use Rattle.arc_core.specs.ReplyText.{reply_text}
-use Rattle.arc_core.specs.Step.{rows_of}
-use Rattle.cache_engine.specs.Held.{shelf_of, places_at}
-use Rattle.cache_engine.proofs.LookUps.{item_found}
-use Rattle.cache_engine.proofs.NoneSticky.{found_at}
-use Rattle.cache_engine.proofs.Texts.{retrieval_short}
+use Rattle.std.proofs.Common.{max, ap, ◌∙◌}
+use Rattle.arc_core.specs.Step.{unexpired, used}
+use Rattle.cache_engine.specs.Retrieving.{live_rows}
+use Rattle.cache_engine.proofs.Retrievals.{answer_short, retrieved}
 use Rattle.cache_engine.proofs.cache.Cache.retrieve.Goals as goal
 
-pub returns-in-Ok-clause-text : goal.returns-in-Ok-clause-text
-returns-in-Ok-clause-text c =
-    let shelf = shelf_of c.self.inside.all.items in
-    let keys = c.in-Ok.ensures.keys in
-    let rows : c.in-Ok.rows ≡ rows_of c.args.unique (places_at shelf 0) c.args.keys.now =
-    c.in-Ok.ensures.rows 0 ∙ ap (λ all. rows_of c.args.unique (places_at (shelf_of all) 0) c.args.keys.now) c.deref.ensures.value in
-    subst (λ found. length (reply_text (reply.Values found)) < 2 ^ 64) (sym rows)
-    (retrieval_short c.args.unique (places_at shelf 0) c.args.keys.now (λ key item is. item_found key shelf item c.self.invariant.0.items (sym (found_at key shelf 0 0 0) ∙ is)) keys.0 keys.1)
+pub returns-clause-acts : goal.returns-clause-acts
+returns-clause-acts c =
+    let second = c.max-latest.ensures ∙ ap (λ s. max s.latest c.args.now) c.self.view_is in
+    let places = ap (λ s. s.places) c.self.view_is in
+    retrieved c.args.self.now c.args.now c.args.keys.now c.args.unique _ c.in-Ok.found.rows
+    (c.in-Ok.ensures.rows ∙ (λ i. live_rows c.args.unique (second i) (places i) c.args.keys.now))
+    (λ i. record {
+      latest = second i;
+      counter = ap (λ s. s.counter) c.self.view_is i;
+      places = (c.read_and_use.ensures ∙ (λ j. used (second j) c.args.keys.now (unexpired (second j) c.args.keys.now (places j)))) i;
+    })
+
+pub returns-clause-text : goal.returns-clause-text
+returns-clause-text c =
+    answer_short c.args.unique c.max-latest.result c.args.keys.now c.self.inside.items c.in-Ok.found.rows c.rules.ensures.placed c.in-Ok.ensures.keys.0 c.in-Ok.ensures.keys.1 c.in-Ok.ensures.rows

@@ -1,21 +1,19 @@
-use Rattle.std.proofs.Common.{subst}
-use Rattle.arc_core.specs.declared.replies.Reply.TheVariants as reply
-use Rattle.arc_core.specs.declared.replies.Word.TheVariants as word
-use Rattle.cache_engine.specs.Held.{Stores, state_at, shelf_of}
-use Rattle.cache_engine.proofs.Stores.{stores, stores_nothing}
+use Rattle.std.proofs.Common.{max, w64, sym, ap, ◌∙◌, subst}
+use Rattle.std.proofs.lemmas.Int.{to_z-of_z}
+use Rattle.arc_core.specs.Places.{found}
+use Rattle.arc_core.specs.Step.{plan_of_store}
+use Rattle.cache_engine.specs.Planning.{Plans, state_at, held_item}
+use Rattle.cache_engine.specs.Starting.{live_of}
+use Rattle.cache_engine.proofs.Actions.{stored}
 use Rattle.cache_engine.proofs.cache.Cache.store.Goals as goal
 
-pub returns-in-Done : goal.returns-in-Done
-returns-in-Done c =
-    let old = c.self.inside in
-    let new = shelf_of c.put_item.new.all.items in
-    subst (λ state. Stores state c.args.now c.args.key.now c.args.flags c.args.bytes.now (reply.Word word.Stored) (state_at new c.max-self-inside.result c.next-unique.result old.limit)) c.self.view_is
-    (stores (shelf_of old.all.items) new old.latest c.max-self-inside.result old.counter c.next-unique.result old.limit c.in-Done.total c.args.now c.args.flags c.args.key.now c.args.bytes.now c.in-Ok.value c.in-Done.ensures c.next-unique.ensures c.in-Ok.ensures c.max-self-inside.ensures)
-
-pub returns-in-NoRoom : goal.returns-in-NoRoom
-returns-in-NoRoom c =
-    let old = c.self.inside in
-    let new = shelf_of c.put_item.new.all.items in
-    let later = c.max-self-inside-in-NoRoom in
-    subst (λ state. Stores state c.args.now c.args.key.now c.args.flags c.args.bytes.now (reply.Word word.OutOfMemory) (state_at new later.result old.counter old.limit)) c.self.view_is
-    (stores_nothing (shelf_of old.all.items) new old.latest later.result old.counter c.next-unique.result old.limit c.args.now c.args.flags c.args.key.now c.args.bytes.now c.in-Ok.value c.in-NoRoom.ensures.0 c.in-NoRoom.ensures.1 c.in-Ok.ensures later.ensures)
+pub returns-clause-acts : goal.returns-clause-acts
+returns-clause-acts c =
+    let held = held_item c.live-held.result in
+    let planned = c.plan_store-planned.result in
+    stored c.args.self.now c.args.now c.args.key.now c.carry_out.new.self c.carry_out.result c.args.verb c.args.flags c.args.exptime c.args.value.now c.max-latest.result held planned
+    (c.max-latest.ensures ∙ ap (λ s. max s.latest c.args.now) c.self.view_is)
+    (c.live-held.ensures ∙ ap (live_of c.max-latest.result) (sym c.look-held.ensures.item ∙ ap (λ k. found k c.self.inside.items) c.bytes.ensures.bytes ∙ ap (λ s. found c.args.key.now s.places) c.self.view_is))
+    (λ k p. subst (λ n. Plans k (plan_of_store (state_at c.max-latest.result n p) c.args.verb k c.args.flags c.args.exptime c.args.value.now held) planned) (ap (λ s. s.counter) c.self.view_is)
+    (subst (λ e. Plans k (plan_of_store (state_at c.max-latest.result c.self.inside.counter p) c.args.verb k c.args.flags e c.args.value.now held) planned) (to_z-of_z w64 c.args.exptime c.ranges.exptime) (c.plan_store-planned.ensures.plans k p)))
+    c.carry_out.ensures.finishes

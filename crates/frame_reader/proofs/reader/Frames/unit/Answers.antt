@@ -5,5 +5,5 @@ use Rattle.frame_reader.proofs.reader.Frames.unit.Goals as goal
 
 pub returns-in_default : goal.returns-in_default
 returns-in_default g c =
-    let none : None ≡ ready_unit c.args.self.now = rw (← c.self.view_is) (waits c.self.inside.line.items c.self.inside.block.items c.self.inside.phase c.in_default.not-Ready) in
+    let none : None ≡ ready_unit c.args.self.now = rw (← c.self.view_is) (waits c.self.inside.line.items c.self.inside.block.items c.self.inside.large.items c.self.inside.phase c.in_default.not-Ready) in
     record { unit = none; span = rest_of g.G.Heads.needs c.args.self.now none }

@@ -1,0 +1,195 @@
+#!/usr/bin/env python3
+"""Measures `arcus session` on one input, beside memcached and redis on loopback where they are installed.
+
+50,000 `set` of 100-byte values under as many keys of 14 bytes, and then a `get` of each key in mixed order. See README.md
+in this folder for what is printed and how to read it.
+"""
+
+import os
+import random
+import re
+import resource
+import shutil
+import socket
+import statistics
+import subprocess
+import sys
+import tempfile
+import threading
+import time
+
+TOP = os.path.dirname(os.path.dirname(os.path.abspath(__file__)))
+PROGRAM = os.path.join(TOP, "crates", "arcus", "out", "arcus")
+KEYS = 50_000
+VALUE_BYTES = 100
+REQUESTS = 2 * KEYS
+RUNS = 5
+LIMIT_MIB = 64
+# The stated size of such an item: 64 bytes, its key and its value.
+ITEM_BYTES = 64 + 14 + VALUE_BYTES
+
+
+def key(number):
+    return b"key:%010d" % number
+
+
+def value(number):
+    return (b"%d " % number).ljust(VALUE_BYTES, b"v")
+
+
+def sets(count):
+    return b"".join(b"set %s 0 0 %d\r\n%s\r\n" % (key(i), VALUE_BYTES, value(i)) for i in range(count))
+
+
+def mixed_gets():
+    order = list(range(KEYS))
+    random.Random(1).shuffle(order)
+    return order, b"".join(b"get %s\r\n" % key(i) for i in order)
+
+
+def expected_replies(order):
+    stored = b"STORED\r\n" * KEYS
+    found = b"".join(b"VALUE %s 0 %d\r\n%s\r\nEND\r\n" % (key(i), VALUE_BYTES, value(i)) for i in order)
+    return stored + found
+
+
+def session_seconds(path):
+    """The wall time of one session from the file to a file, and what it wrote."""
+    with open(path, "rb") as source, tempfile.TemporaryFile() as sink:
+        start = time.perf_counter()
+        subprocess.run([PROGRAM, "session"], stdin=source, stdout=sink, check=True)
+        seconds = time.perf_counter() - start
+        sink.seek(0)
+        return seconds, sink.read()
+
+
+def peer_seconds(port, requests, reply_bytes):
+    """The wall time of the same bytes over one connection, and what came back."""
+    with socket.create_connection(("127.0.0.1", port)) as connection:
+        replies = bytearray()
+
+        def receive():
+            while len(replies) < reply_bytes:
+                piece = connection.recv(1 << 20)
+                if not piece:
+                    break
+                replies.extend(piece)
+
+        reader = threading.Thread(target=receive)
+        start = time.perf_counter()
+        reader.start()
+        connection.sendall(requests)
+        reader.join()
+        return time.perf_counter() - start, bytes(replies)
+
+
+def free_port():
+    with socket.socket() as probe:
+        probe.bind(("127.0.0.1", 0))
+        return probe.getsockname()[1]
+
+
+def with_peer(command, port, requests, reply_bytes):
+    """The shortest of some runs over a server that is started for them, or None where it is not installed."""
+    if shutil.which(command[0]) is None:
+        return None
+    server = subprocess.Popen(command, stdout=subprocess.DEVNULL, stderr=subprocess.DEVNULL)
+    try:
+        for _ in range(100):
+            try:
+                socket.create_connection(("127.0.0.1", port)).close()
+                break
+            except OSError:
+                time.sleep(0.05)
+        return [peer_seconds(port, requests, reply_bytes) for _ in range(RUNS)]
+    finally:
+        server.terminate()
+        server.wait()
+
+
+def redis_bytes(order):
+    """The same work in redis's own protocol, and its replies."""
+    requests = b"".join(b"*3\r\n$3\r\nSET\r\n$14\r\n%s\r\n$%d\r\n%s\r\n" % (key(i), VALUE_BYTES, value(i)) for i in range(KEYS))
+    requests += b"".join(b"*2\r\n$3\r\nGET\r\n$14\r\n%s\r\n" % key(i) for i in order)
+    replies = b"+OK\r\n" * KEYS + b"".join(b"$%d\r\n%s\r\n" % (VALUE_BYTES, value(i)) for i in order)
+    return requests, replies
+
+
+def instructions(path, folder):
+    """User-space instructions of one session by callgrind, less those of a session without input."""
+    if shutil.which("valgrind") is None:
+        return None
+
+    def count(source):
+        out = os.path.join(folder, "callgrind.out")
+        with open(source, "rb") as stdin:
+            run = subprocess.run(
+                ["valgrind", "--tool=callgrind", "--callgrind-out-file=" + out, PROGRAM, "session"],
+                stdin=stdin, stdout=subprocess.DEVNULL, stderr=subprocess.PIPE, check=True)
+        return int(re.search(rb"Collected : (\d+)", run.stderr).group(1))
+
+    return count(path) - count(os.devnull)
+
+
+def peak_bytes():
+    """The process's peak of resident memory with the cache full, and the bytes that are accounted then."""
+    count = LIMIT_MIB * (1 << 20) // ITEM_BYTES
+    source = tempfile.TemporaryFile()
+    source.write(sets(count + count // 4))
+    source.seek(0)
+    pid = os.fork()
+    if pid == 0:
+        os.dup2(source.fileno(), 0)
+        os.dup2(os.open(os.devnull, os.O_WRONLY), 1)
+        os.execv(PROGRAM, [PROGRAM, "session", "--limit", str(LIMIT_MIB)])
+    _, status, usage = os.wait4(pid, 0)
+    if status != 0:
+        sys.exit("the session that fills the cache failed")
+    return usage.ru_maxrss * 1024, count * ITEM_BYTES
+
+
+def tell(name, runs, replies, ours=None):
+    """Prints the time per request of the shortest run, and checks what was answered."""
+    if runs is None:
+        print(f"{name}: not installed")
+        return None
+    if any(text != replies for _, text in runs):
+        sys.exit(f"{name} answered something else")
+    shortest = min(seconds for seconds, _ in runs)
+    middle = statistics.median(seconds for seconds, _ in runs)
+    ratio = "" if ours is None else f", {shortest / ours:.2f} times the session's"
+    print(f"{name}: {shortest / REQUESTS * 1e6:.3f} us a request (middle run {middle / REQUESTS * 1e6:.3f}){ratio}")
+    return shortest
+
+
+def main():
+    if not os.path.exists(PROGRAM):
+        sys.exit(f"{PROGRAM} is not there: build it by ./arcus")
+    order, gets = mixed_gets()
+    requests, replies = sets(KEYS) + gets, expected_replies(order)
+    with tempfile.TemporaryDirectory() as folder:
+        path = os.path.join(folder, "input")
+        with open(path, "wb") as file:
+            file.write(requests)
+        print(f"{KEYS} sets of {VALUE_BYTES}-byte values and as many gets in mixed order; the shortest of {RUNS} runs")
+        ours = tell("arcus session, file to file", [session_seconds(path) for _ in range(RUNS)], replies)
+        port = free_port()
+        tell("memcached, one thread, one connection on loopback", with_peer(
+            ["memcached", "-u", "nobody", "-l", "127.0.0.1", "-p", str(port), "-t", "1", "-m", "64", "-U", "0"],
+            port, requests, len(replies)), replies, ours)
+        redis_requests, redis_replies = redis_bytes(order)
+        port = free_port()
+        tell("redis, one connection on loopback", with_peer(
+            ["redis-server", "--bind", "127.0.0.1", "--port", str(port), "--save", "", "--appendonly", "no"],
+            port, redis_requests, len(redis_replies)), redis_replies, ours)
+        count = instructions(path, folder)
+        if count is None:
+            print("instructions: valgrind is not installed")
+        else:
+            print(f"instructions: {count / REQUESTS:.0f} a request in user space")
+    peak, accounted = peak_bytes()
+    print(f"memory: a peak of {peak / (1 << 20):.1f} MiB with {accounted / (1 << 20):.1f} MiB accounted, a ratio of {peak / accounted:.2f}")
+
+
+if __name__ == "__main__":
+    main()

@@ -1,0 +1,449 @@
+//! Input that is wrong: what is answered, and that nothing of what follows is lost.
+
+use crate::harness::{
+    BYTE_BY_BYTE, DEFAULT, ONE_MIB, add_text, bytes_of, expect, expect_bytes, run_on,
+};
+use arcus_tool::Status;
+use std::alloc::{AllocError, Global};
+use std::test::Fail;
+
+// Lines whose first word is a command, and whose further words do not spell it: words that are missing or too many, and
+// numbers past their limits.
+const BAD_FORMAT: [&str; 117] = [
+    // set, add, replace, append, prepend: <key> <flags> <exptime> <bytes> [noreply]
+    "set",
+    "set a",
+    "set a 0",
+    "set a 0 0",
+    "set a 0 0 noreply",
+    "set a 0 0 1 x",
+    "set a 0 0 1 0",
+    "set a 0 0 1 Noreply",
+    "set a 0 0 1 noreply x",
+    "set a 0 0 1 noreply noreply",
+    "add",
+    "add a",
+    "add a 0",
+    "add a 0 0",
+    "add a 0 0 1 x",
+    "replace",
+    "replace a",
+    "replace a 0",
+    "replace a 0 0",
+    "replace a 0 0 1 x",
+    "append",
+    "append a",
+    "append a 0 0",
+    "append a 0 0 1 x",
+    "prepend",
+    "prepend a",
+    "prepend a 0 0",
+    "prepend a 0 0 1 x",
+    // Flags are below 2^32, exptimes from -2^31 to 2^32 - 1, lengths of blocks below 2^31.
+    "set a 4294967296 0 1",
+    "set a -1 0 1",
+    "set a +1 0 1",
+    "set a x 0 1",
+    "set a 1x 0 1",
+    "set a 000000000000000000000 0 1",
+    "set a 0 4294967296 1",
+    "set a 0 -2147483649 1",
+    "set a 0 - 1",
+    "set a 0 --1 1",
+    "set a 0 +1 1",
+    "set a 0 1- 1",
+    "set a 0 x 1",
+    "set a 0 0 2147483648",
+    "set a 0 0 18446744073709551617",
+    "set a 0 0 -1",
+    "set a 0 0 1.0",
+    "set a 0 0 0x1",
+    "add a 4294967296 0 1",
+    "replace a 0 4294967296 1",
+    "append a 0 -2147483649 1",
+    "prepend a 0 0 2147483648",
+    // Keys have 16,000 bytes at most, none of which is a control byte or 127.
+    "set {16001x} 0 0 1",
+    "set a\tb 0 0 1",
+    "set a\x7f 0 0 1",
+    // cas: <key> <flags> <exptime> <bytes> <unique> [noreply], where the unique is below 2^64
+    "cas",
+    "cas a",
+    "cas a 0 0",
+    "cas a 0 0 1",
+    "cas a 0 0 1 noreply",
+    "cas a 0 0 1 1 1",
+    "cas a 0 0 1 1 noreply noreply",
+    "cas a 0 0 1 18446744073709551616",
+    "cas a 0 0 1 -1",
+    "cas a 0 0 1 x",
+    "cas a 4294967296 0 1 1",
+    "cas a 0 4294967296 1 1",
+    "cas a 0 0 2147483648 1",
+    // get, gets: <key> [<key> ..]
+    "get",
+    "get  ",
+    "get {16001x}",
+    "get a b\x01",
+    "get a\r",
+    "gets",
+    "gets a {16001x}",
+    // mget: <lenkeys> <numkeys>, with 1 to 1,000 keys
+    "mget",
+    "mget 1",
+    "mget 0 1",
+    "mget 1 0",
+    "mget 2147483648 1",
+    "mget 1999 1001",
+    "mget -1 1",
+    "mget 1 x",
+    "mget 1 1 1",
+    "mget 1 1 noreply",
+    // incr, decr: <key> <delta> [<flags> <exptime> <initial>] [noreply]
+    "incr",
+    "incr n",
+    "incr n noreply",
+    "incr n -1",
+    "incr n x",
+    "incr n 18446744073709551616",
+    "incr n 000000000000000000001",
+    "incr n 1 0",
+    "incr n 1 0 0",
+    "incr n 1 0 0 noreply",
+    "incr n 1 0 0 5 6",
+    "incr n 1 noreply 0",
+    "incr n 1 0 0 5 noreply x",
+    "incr n 1 4294967296 0 5",
+    "incr n 1 0 4294967296 5",
+    "incr n 1 0 0 18446744073709551616",
+    "decr",
+    "decr n",
+    "decr n 18446744073709551616",
+    "decr n 1 0 -2147483649 5",
+    // delete: <key> [0] [noreply]
+    "delete",
+    "delete a 1",
+    "delete a 00",
+    "delete a 0 0",
+    "delete a noreply 0",
+    "delete noreply noreply noreply",
+    // touch: <key> <exptime> [noreply]
+    "touch a",
+    "touch a noreply",
+    "touch a 4294967296",
+    "touch a -2147483649",
+    "touch a 0 0",
+    // flush_all [noreply], version, quit
+    "flush_all 0",
+    "version noreply",
+    "quit noreply",
+];
+
+// Lines without a word, and lines whose first word is no command.
+const UNKNOWN: [&str; 14] = [
+    "",
+    "   ",
+    "\t",
+    "x",
+    "SET a 0 0 1",
+    "Get a",
+    "QUIT",
+    "sett a 0 0 1",
+    "noreply",
+    "flush_al",
+    "stats",
+    "lop get l 0",
+    "bop",
+    "set\ta 0 0 1",
+];
+
+// Each bad line has its answer, and the line behind it is read as a line: no block is taken.
+#[test]
+fn bad_lines_are_answered(rt: HostRuntime) -> Result<(), Fail> {
+    for line in BAD_FORMAT {
+        let input = format!(in rt.alloc(); "{line}|version|")?;
+        let output = "CLIENT_ERROR bad command line format|VERSION arcus-profile-1|";
+        expect(&rt, rt.alloc(), DEFAULT, &input, output, Status::Done)?;
+    }
+    for line in UNKNOWN {
+        let input = format!(in rt.alloc(); "{line}|version|")?;
+        let output = "ERROR unknown command|VERSION arcus-profile-1|";
+        expect(&rt, rt.alloc(), DEFAULT, &input, output, Status::Done)?;
+    }
+    Ok(())
+}
+
+// Input that is right up to the limits, and bad blocks. Each session comes to its end.
+const ANSWERED: [(&str, &str); 53] = [
+    // Numbers at their limits.
+    (
+        "set a 4294967295 0 1|x|get a|",
+        "STORED|VALUE a 4294967295 1|x|END|",
+    ),
+    (
+        "set a 00000000004294967295 0 01|x|get a|",
+        "STORED|VALUE a 4294967295 1|x|END|",
+    ),
+    ("set a 0 4294967295 1|x|get a|", "STORED|VALUE a 0 1|x|END|"),
+    ("set a 0 -2147483648 1|x|get a|", "STORED|END|"),
+    ("set a 0 -0 1|x|get a|", "STORED|VALUE a 0 1|x|END|"),
+    ("set a 0 -01 1|x|get a|", "STORED|VALUE a 0 1|x|END|"),
+    ("cas a 0 0 1 18446744073709551615|x|", "NOT_FOUND|"),
+    ("incr n 18446744073709551615|", "NOT_FOUND|"),
+    (
+        "incr n 1 4294967295 0 18446744073709551615|get n|",
+        "18446744073709551615|VALUE n 4294967295 20|18446744073709551615|END|",
+    ),
+    (
+        "decr n 7 3 0 00000000000000000005|get n|",
+        "5|VALUE n 3 1|5|END|",
+    ),
+    ("incr n 1 0 -2147483648 5|get n|", "5|END|"),
+    ("touch a 4294967295|", "NOT_FOUND|"),
+    ("touch a -2147483648|", "NOT_FOUND|"),
+    ("delete a 0|", "NOT_FOUND|"),
+    (
+        "  set  a   5 0 1 |x| get   a |",
+        "STORED|VALUE a 5 1|x|END|",
+    ),
+    // Keys of one byte and of 16,000, and a block of keys.
+    (
+        "set {16000k} 0 0 1|x|get {16000k}|mget 16000 1|{16000k}|",
+        "STORED|VALUE {16000k} 0 1|x|END|VALUE {16000k} 0 1|x|END|",
+    ),
+    ("set ключ 0 0 2|ж|get ключ|", "STORED|VALUE ключ 0 2|ж|END|"),
+    (
+        "set a 0 0 1|x|mget 1048576 1|{1048575 }a|version|",
+        "STORED|VALUE a 0 1|x|END|VERSION arcus-profile-1|",
+    ),
+    (
+        "mget 1048577 1|{1048576 }a|version|",
+        "CLIENT_ERROR too large value|VERSION arcus-profile-1|",
+    ),
+    // noreply is a word like others where it is none.
+    ("get noreply|", "END|"),
+    (
+        "set noreply 0 0 1|x|get a noreply|",
+        "STORED|VALUE noreply 0 1|x|END|",
+    ),
+    ("gets noreply noreply|", "END|"),
+    ("delete noreply|", "NOT_FOUND|"),
+    ("incr noreply 1|", "NOT_FOUND|"),
+    ("touch noreply 0|", "NOT_FOUND|"),
+    // A bad block among good commands: too long by one, too short, without its line end, and too long by three.
+    (
+        "set a 0 0 1|x|set b 0 0 3|abcd|get a b|",
+        "STORED|CLIENT_ERROR bad data chunk|ERROR unknown command|VALUE a 0 1|x|END|",
+    ),
+    (
+        "set a 0 0 1|x|set a 0 0 3|b|get a|get a|",
+        "STORED|CLIENT_ERROR bad data chunk|ERROR unknown command|VALUE a 0 1|x|END|",
+    ),
+    (
+        "set a 0 0 1|x|set b 0 0 1|y\nget a|get a|",
+        "STORED|CLIENT_ERROR bad data chunk|ERROR unknown command|VALUE a 0 1|x|END|",
+    ),
+    (
+        "set a 0 0 1|x|set b 0 0 2|abcdget a|get b|",
+        "STORED|CLIENT_ERROR bad data chunk|VALUE a 0 1|x|END|END|",
+    ),
+    // A block that is too large is passed over, whatever its bytes are.
+    (
+        "set a 0 0 1|x|set a 0 0 1048577|{1048577y}zzget a|",
+        "STORED|CLIENT_ERROR too large value|VALUE a 0 1|x|END|",
+    ),
+    // A block of keys with a key too few or too many, with a bad byte, with a key that is too long, without a key, and
+    // too long by one.
+    (
+        "mget 3 2|abc|version|",
+        "CLIENT_ERROR bad data chunk|VERSION arcus-profile-1|",
+    ),
+    (
+        "mget 3 1|a b|version|",
+        "CLIENT_ERROR bad data chunk|VERSION arcus-profile-1|",
+    ),
+    (
+        "mget 3 1|a\tb|version|",
+        "CLIENT_ERROR bad data chunk|VERSION arcus-profile-1|",
+    ),
+    (
+        "mget 4 2|a|b|version|",
+        "CLIENT_ERROR bad data chunk|VERSION arcus-profile-1|",
+    ),
+    (
+        "mget 16001 1|{16001k}|version|",
+        "CLIENT_ERROR bad data chunk|VERSION arcus-profile-1|",
+    ),
+    (
+        "mget 3 1|   |version|",
+        "CLIENT_ERROR bad data chunk|VERSION arcus-profile-1|",
+    ),
+    (
+        "mget 1 1|ab|version|",
+        "CLIENT_ERROR bad data chunk|ERROR unknown command|VERSION arcus-profile-1|",
+    ),
+    (
+        "set a 0 0 1|x|mget 6 3|  a a |version|",
+        "STORED|CLIENT_ERROR bad data chunk|VERSION arcus-profile-1|",
+    ),
+    (
+        "set a 0 0 1|x|mget 6 2|  a a |version|",
+        "STORED|VALUE a 0 1|x|VALUE a 0 1|x|END|VERSION arcus-profile-1|",
+    ),
+    // A head with noreply has no text, whatever happens to it.
+    (
+        "set a 0 0 1 noreply|xyzversion|",
+        "VERSION arcus-profile-1|",
+    ),
+    (
+        "set a 0 0 1 noreply|xy|version|",
+        "ERROR unknown command|VERSION arcus-profile-1|",
+    ),
+    ("set a 0 0 1048577 noreply|{1048577x}|get a|", "END|"),
+    (
+        "add a 0 0 1|x|add a 0 0 1 noreply|y|get a|",
+        "STORED|VALUE a 0 1|x|END|",
+    ),
+    (
+        "replace a 0 0 1 noreply|x|append a 0 0 1 noreply|x|prepend a 0 0 1 noreply|x|cas a 0 0 1 1 noreply|x|get a|",
+        "END|",
+    ),
+    (
+        "set a 0 0 1|x|cas a 0 0 1 2 noreply|y|incr a 1 noreply|decr a 1 noreply|get a|",
+        "STORED|VALUE a 0 1|x|END|",
+    ),
+    (
+        "set a 0 0 1048576|{1048576x}|append a 0 0 1 noreply|y|version|",
+        "STORED|VERSION arcus-profile-1|",
+    ),
+    (
+        "delete a noreply|delete a 0 noreply|touch a 0 noreply|incr a 1 noreply|flush_all noreply|get a|",
+        "END|",
+    ),
+    (
+        "incr n 1 6 0 9 noreply|decr n 2 noreply|touch n -1 noreply|get n|delete n noreply|get n|",
+        "VALUE n 6 1|7|END|END|",
+    ),
+    // quit ends the session, and nothing behind it is handled.
+    ("set a 0 0 1|x|quit|get a|", "STORED|"),
+    ("sett|  quit |get a|", "ERROR unknown command|"),
+    (
+        "set a 0 0 1|xyzquit\nget a|",
+        "CLIENT_ERROR bad data chunk|",
+    ),
+    (
+        "quit now|quit|set a 0 0 9|ab",
+        "CLIENT_ERROR bad command line format|",
+    ),
+    ("quit|{65536x}", ""),
+];
+
+#[test]
+fn bad_input_loses_nothing(rt: HostRuntime) -> Result<(), Fail> {
+    for (input, output) in ANSWERED {
+        expect(&rt, rt.alloc(), DEFAULT, input, output, Status::Done)?;
+        if input.len() < 100 {
+            expect(&rt, rt.alloc(), BYTE_BY_BYTE, input, output, Status::Done)?;
+        }
+    }
+    // A store for which there is no room has no text either.
+    expect(
+        &rt,
+        rt.alloc(),
+        ONE_MIB,
+        "set a 0 -1 1048511|{1048511x}|set b 0 0 0 noreply||append a 0 0 1 noreply|x|get b|set b 0 0 0||",
+        "STORED|END|SERVER_ERROR out of memory|",
+        Status::Done,
+    )?;
+    Ok(())
+}
+
+// Input that ends within a unit, what is answered before, and how many bytes of the unit came; and lines at the limit.
+const CUT: [(&str, &str, Status); 15] = [
+    ("quit", "", Status::CutInput(4)),
+    ("quit\r", "", Status::CutInput(5)),
+    (" ", "", Status::CutInput(1)),
+    (
+        "version|get a",
+        "VERSION arcus-profile-1|",
+        Status::CutInput(5),
+    ),
+    (
+        "get|get a\r",
+        "CLIENT_ERROR bad command line format|",
+        Status::CutInput(6),
+    ),
+    ("set a 0 0 1|", "", Status::CutInput(13)),
+    ("set a 0 0 1|x", "", Status::CutInput(14)),
+    ("set a 0 0 1|x\r", "", Status::CutInput(15)),
+    ("set a 0 0 1\nx\r", "", Status::CutInput(14)),
+    // Within the block of a head with noreply.
+    ("set a 0 0 9 noreply|abc", "", Status::CutInput(24)),
+    // Within a block that would be passed over, and within one of the most bytes that a line can name.
+    ("set a 0 0 1048577|{1000x}", "", Status::CutInput(1019)),
+    (
+        "set a 0 0 2147483647|{200000x}",
+        "",
+        Status::CutInput(200_022),
+    ),
+    ("mget 2147483647 1000|abc", "", Status::CutInput(25)),
+    // A line has 65,536 bytes with its end.
+    ("get a{65529 }|get a{65530 }\n", "END|END|", Status::Done),
+    (
+        "get a{65530 }|get a|",
+        "CLIENT_ERROR line too long|",
+        Status::LineTooLong,
+    ),
+];
+
+#[test]
+fn cut_input_is_told(rt: HostRuntime) -> Result<(), Fail> {
+    for (input, output, status) in CUT {
+        expect(&rt, rt.alloc(), DEFAULT, input, output, status)?;
+        expect(&rt, rt.alloc(), BYTE_BY_BYTE, input, output, status)?;
+    }
+    Ok(())
+}
+
+// A line with so many keys `k` behind the text.
+fn with_keys(alloc: Global, text: &str, keys: usize) -> Result<Vec<u8>, AllocError> {
+    let mut bytes = bytes_of(alloc, text)?;
+    for _ in 0..keys {
+        bytes.extend_from_slice(b" k")?;
+    }
+    add_text(&mut bytes, "|version|")?;
+    Ok(bytes)
+}
+
+// A retrieval names 1,000 keys at most, on its line and in its block; a key that is named twice is found twice.
+#[test]
+fn retrievals_name_up_to_1000_keys(rt: HostRuntime) -> Result<(), Fail> {
+    let alloc = rt.alloc();
+    for (text, keys, found, ending) in [
+        ("set k 0 0 0||get", 1000, 1000, "END|"),
+        (
+            "set k 0 0 0||get",
+            1001,
+            0,
+            "CLIENT_ERROR bad command line format|",
+        ),
+        ("set k 0 0 0||mget 2000 1000|", 1000, 1000, "END|"),
+        (
+            "set k 0 0 0||mget 2000 999|",
+            1000,
+            0,
+            "CLIENT_ERROR bad data chunk|",
+        ),
+    ] {
+        let played = run_on(&rt, alloc, DEFAULT, with_keys(alloc, text, keys)?)?;
+        let mut wanted = bytes_of(alloc, "STORED|")?;
+        for _ in 0..found {
+            add_text(&mut wanted, "VALUE k 0 0||")?;
+        }
+        add_text(&mut wanted, ending)?;
+        add_text(&mut wanted, "VERSION arcus-profile-1|")?;
+        expect_bytes(&rt, text, played.sink.bytes(), &wanted);
+        assert_eq!(rt; played.status, Status::Done);
+    }
+    Ok(())
+}

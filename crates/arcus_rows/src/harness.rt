@@ -1,0 +1,133 @@
+//! How a row is run: a session over memory.
+//!
+//! In the texts of rows `|` stands for CR LF, and braces hold bytes with the number of times that each is repeated:
+//! `{3x2y}` stands for `xxxyy`.
+
+use crate::{Played, play};
+use arc_core::{ListClock, MemorySink, MemorySource};
+use arcus_tool::Status;
+use std::alloc::{AllocError, Global};
+use std::process::Abort;
+
+/// As many bytes as a pull or a push asks for.
+pub const AT_ONCE: usize = 1 << 20;
+
+/// What a session is run with, beside its input.
+#[derive(Clone, Copy)]
+pub struct Setting<'a> {
+    pub words: &'a [&'a str],
+    /// The clock's seconds, 1 to 64, one for each request; the last one stays.
+    pub seconds: &'a [u32],
+    /// The most bytes that a pull gives at once.
+    pub most: usize,
+    /// The calls of `pull` that fail, counted from 0.
+    pub failing_pulls: &'a [u64],
+    /// The calls of `push` that fail, counted from 0.
+    pub failing_pushes: &'a [u64],
+}
+
+/// The cache that the program has where no limit is named, second 0, and no fault.
+pub const DEFAULT: Setting<'static> = Setting {
+    words: &["session"],
+    seconds: &[0],
+    most: AT_ONCE,
+    failing_pulls: &[],
+    failing_pushes: &[],
+};
+
+/// A cache of 1 MiB.
+pub const ONE_MIB: Setting<'static> = Setting {
+    words: &["session", "--limit", "1"],
+    ..DEFAULT
+};
+
+/// In pieces of one byte.
+pub const BYTE_BY_BYTE: Setting<'static> = Setting { most: 1, ..DEFAULT };
+
+/// Puts the bytes for which a row's text stands behind the others.
+pub fn add_text(bytes: &mut Vec<u8>, text: &str) -> Result<(), AllocError> {
+    // How often the next byte within braces is repeated.
+    let mut times = None;
+    for &byte in text.as_bytes() {
+        times = match (times, byte) {
+            (None, b'{') => Some(0usize),
+            (None, b'|') => {
+                bytes.extend_from_slice(b"\r\n")?;
+                None
+            }
+            (None, byte) => {
+                bytes.push(byte)?;
+                None
+            }
+            (Some(_), b'}') => None,
+            (Some(count), b'0'..=b'9') => {
+                Some(
+                    count
+                        .saturating_mul(10)
+                        .saturating_add(usize::from(byte - b'0')),
+                )
+            }
+            (Some(count), byte) => {
+                bytes.resize(bytes.len().saturating_add(count), byte)?;
+                Some(0)
+            }
+        };
+    }
+    Ok(())
+}
+
+/// The bytes for which a row's text stands.
+pub fn bytes_of(alloc: Global, text: &str) -> Result<Vec<u8>, AllocError> {
+    let mut bytes = Vec::new(alloc);
+    add_text(&mut bytes, text)?;
+    Ok(bytes)
+}
+
+/// The program's words.
+pub fn words_of(alloc: Global, words: &[&str]) -> Result<Vec<String>, AllocError> {
+    let mut owned = Vec::new(alloc);
+    for word in words {
+        owned.push(String::from_str(alloc, word)?)?;
+    }
+    Ok(owned)
+}
+
+/// Runs the program on this input.
+pub fn run_on(
+    rt: &impl Abort,
+    alloc: Global,
+    setting: Setting<'_>,
+    input: Vec<u8>,
+) -> Result<Played<MemorySource, MemorySink, ListClock>, AllocError> {
+    assert!(rt; !setting.seconds.is_empty() && setting.seconds.len() <= 64 && setting.most > 0);
+    let words = words_of(alloc, setting.words)?;
+    let source = MemorySource::new(input, setting.most, setting.failing_pulls.to_vec(alloc)?);
+    let sink = MemorySink::new(alloc, AT_ONCE, setting.failing_pushes.to_vec(alloc)?);
+    let clock = ListClock::new(setting.seconds);
+    Ok(play(alloc, &words, source, sink, clock))
+}
+
+/// Runs the program on the input for which this text stands, and asks for that output and that status.
+pub fn expect(
+    rt: &impl Abort,
+    alloc: Global,
+    setting: Setting<'_>,
+    input: &str,
+    output: &str,
+    status: Status,
+) -> Result<(), AllocError> {
+    let played = run_on(rt, alloc, setting, bytes_of(alloc, input)?)?;
+    let wanted = bytes_of(alloc, output)?;
+    expect_bytes(rt, input, played.sink.bytes(), &wanted);
+    assert_eq!(rt; played.status, status, "{input}");
+    Ok(())
+}
+
+/// Asks that the row with this input had the wanted output.
+pub fn expect_bytes(rt: &impl Abort, input: &str, output: &[u8], wanted: &[u8]) {
+    if output != wanted {
+        let front = &output[..output.len().min(500)];
+        let text = str::from_utf8(front).unwrap_or("no text");
+        panic!(rt; "{input} gives {text}");
+    }
+}

@@ -1,0 +1,211 @@
+-- What the shelf holds after each change, as the machine's items in their places.
+use Rattle.std.proofs.Common.{◌≡◌, ℕ, Bool, List, [], length, Option, Some, None, option_map, is_some, ℤ, pos, ◌-ℤ◌, bytes_eq, Bor, Result, Ok, Err, refl, sym, ap, ◌∙◌, subst}
+use Rattle.std.specs.Option.{option_or, option_map_or, option_flatten, option_copied}
+use Rattle.std.specs.Map.{lookup}
+use Rattle.std.specs.FinMap as finite
+use Rattle.std.proofs.lemmas.List.{length-map}
+use Rattle.arc_core.specs.declared.items.Expiry.{Expiry}
+use Rattle.arc_core.specs.Item.{Item, key_value, IsItem, size_of, expiry_of, is_sticky, with_expiry}
+use Rattle.arc_core.specs.Places.{Places, HasEachKeyOnce, empty_places, found, count_of, total_of, touched, placed, without}
+use Rattle.arc_core.specs.Room.{room, evicted}
+use Rattle.arc_core.specs.Step.{put_behind}
+use Rattle.arc_core.specs.CacheState.{ArePlaced}
+use Rattle.byte_account.specs.Sides.{AllOnSides}
+use Rattle.byte_account.specs.Weight.{place_weight}
+use Rattle.byte_account.specs.Filled.{map_places, map_values, map_listed, items_of, IsFilled}
+use Rattle.byte_account.proofs.PlacesLaws.{found-shelf, found-sticky, not_on_shelf, HasEachKeyOnce-touched, HasEachKeyOnce-placed, HasEachKeyOnce-without, HasEachKeyOnce-evicted}
+use Rattle.byte_account.proofs.AccountingLaws.{HasEachKeyOnce-empty}
+use Rattle.byte_account.proofs.SideLaws.{AllOnSides-empty, AllOnSides-touched, AllOnSides-without, AllOnSides-placed, AllOnSides-evicted}
+use Rattle.byte_account.proofs.FilledLaws.{found-map, touched-map, without-map, placed-map, evicted-map, room-map, count-map, total-map, get-map_values}
+use Rattle.byte_account.proofs.StickyMaps.{same_map}
+use Rattle.byte_account.proofs.MovedLaws.{evicted-none}
+use Rattle.std.specs.Ordering.{nat_cmp}
+use Rattle.std.specs.Cmp.Lexicographic.{slice_cmp}
+use Rattle.cache_engine.specs.declared.stored.Stored.{Stored}
+use Rattle.cache_engine.specs.declared.stored.Stored.TheVariants as stored
+use Rattle.cache_engine.specs.declared.puts.Put.{Put}
+use Rattle.cache_engine.specs.declared.puts.Put.TheVariants as put
+use Rattle.cache_engine.specs.Stored.{item_of, items_in, Holds}
+use Rattle.cache_engine.specs.Putting.{weigh, sticky_of, room_for, ShelfPut}
+use Rattle.arc_core.specs.declared.faults.NoMemory.{NoMemory}
+use Rattle.byte_account.specs.ShelfWords.{item_at}
+use Rattle.cache_engine.specs.Retiming.{IsRetimed, Retimes}
+use Rattle.cache_engine.specs.Changes.{evicted_for, Puts, HasExpiry, Expires}
+use Rattle.cache_engine.proofs.Holding.{put_in, HoldsItems, filled_with, found-filled, found-items}
+
+-- an item keeps its rules, on the side where it belongs
+abbrev pub Belongs : Bool → Item → Type 0
+Belongs side item = IsItem item × (is_sticky (expiry_of item) ≡ side)
+
+some_some : {A : Type 0} (x y : A) → ◌≡◌ {A = Option A} (Some x) (Some y) → x ≡ y
+some_some x y h = cc
+
+belong : (places : Places Item) → ArePlaced places → AllOnSides Belongs places
+belong places placed = record {
+  on_shelf = λ key item h. (placed.items key item (found-shelf key places item h), placed.on_shelf key item h);
+  sticky = λ key item h. (placed.items key item (found-sticky key places (not_on_shelf places placed.once key (ap is_some h)) ∙ h), placed.sticky key item h);
+}
+
+item_by : (l s : Option Item) (item : Item) → ((x : Item) → l ≡ Some x → IsItem x) → ((x : Item) → s ≡ Some x → IsItem x) → option_or l s ≡ Some item → IsItem item
+item_by None s item on off h = off item h
+item_by (Some x) s item on off h = on item h
+
+placed_from : (places : Places Item) → AllOnSides Belongs places → HasEachKeyOnce places → ArePlaced places
+placed_from places good once = record {
+  items = λ key item h. item_by (lookup (bytes_eq key) places.shelf) (finite.get places.sticky key) item (λ x e. (good.on_shelf key x e).0) (λ x e. (good.sticky key x e).0) h;
+  on_shelf = λ key item h. (good.on_shelf key item h).1;
+  sticky = λ key item h. (good.sticky key item h).1;
+  once = once;
+}
+
+pub ArePlaced-touched : (key : List ℕ) (places : Places Item) → ArePlaced places → ArePlaced (touched key places)
+ArePlaced-touched key places are = placed_from (touched key places) (AllOnSides-touched Belongs key places (belong places are)) (HasEachKeyOnce-touched key places are.once)
+
+pub ArePlaced-without : (key : List ℕ) (places : Places Item) → ArePlaced places → ArePlaced (without key places)
+ArePlaced-without key places are = placed_from (without key places) (AllOnSides-without Belongs key places (belong places are)) (HasEachKeyOnce-without key places are.once)
+
+pub ArePlaced-evicted : (key : List ℕ) (n : ℕ) (places : Places Item) → ArePlaced places → ArePlaced (evicted key n places)
+ArePlaced-evicted key n places are = placed_from (evicted key n places) (AllOnSides-evicted Belongs key n places are.once (belong places are)) (HasEachKeyOnce-evicted key n places are.once)
+
+pub ArePlaced-placed : (key : List ℕ) (item : Item) (places : Places Item) → IsItem item → ArePlaced places → ArePlaced (placed (is_sticky (expiry_of item)) key item places)
+ArePlaced-placed key item places ok are =
+    placed_from (placed (is_sticky (expiry_of item)) key item places) (AllOnSides-placed Belongs (is_sticky (expiry_of item)) key item places (ok, refl) (belong places are)) (HasEachKeyOnce-placed (is_sticky (expiry_of item)) key item places are.once)
+
+pub ArePlaced-empty : (limit : ℕ) → ArePlaced (empty_places limit)
+ArePlaced-empty limit = placed_from (empty_places limit) (AllOnSides-empty Belongs limit) (HasEachKeyOnce-empty size_of limit)
+
+-- each stored item keeps the rules on items
+pub stored_is_item : (item : Stored) → IsItem (item_of item)
+stored_is_item (stored.KeyValue item) = item.fits
+
+map-empty : {X Y : Type 0} (f : X → Y) (limit : ℕ) → map_places f (empty_places limit) ≡ empty_places limit
+map-empty {X} {Y} f limit =
+    let none = same_map (map_values f (finite.empty {X = X} {R = slice_cmp nat_cmp})) finite.empty (λ q. get-map_values f finite.empty q ∙ ap (option_map f) (finite.get-empty (slice_cmp nat_cmp) q) ∙ sym (finite.get-empty (slice_cmp nat_cmp) q)) in
+    λ i. record { shelf = []; sticky = none i; limit = limit }
+
+pub HoldsItems-touched : (key : List ℕ) (old new : Places (Option Stored)) → Holds old → new ≡ touched key old → HoldsItems new (touched key (items_in old))
+HoldsItems-touched key old new holds e =
+    filled_with new (touched key (items_of old)) (touched key (items_in old)) (e ∙ ap (touched key) holds.filled ∙ touched-map put_in key (items_of old)) (sym (touched-map item_of key (items_of old))) (ArePlaced-touched key (items_in old) holds.placed)
+
+pub HoldsItems-without : (key : List ℕ) (old new : Places (Option Stored)) → Holds old → new ≡ without key old → HoldsItems new (without key (items_in old))
+HoldsItems-without key old new holds e =
+    filled_with new (without key (items_of old)) (without key (items_in old)) (e ∙ ap (without key) holds.filled ∙ without-map put_in key (items_of old)) (sym (without-map item_of key (items_of old))) (ArePlaced-without key (items_in old) holds.placed)
+
+pub HoldsItems-empty : (limit : ℕ) (new : Places (Option Stored)) → new ≡ empty_places limit → HoldsItems new (empty_places limit)
+HoldsItems-empty limit new e =
+    filled_with new (empty_places limit) (empty_places limit) (e ∙ sym (map-empty put_in limit)) (map-empty item_of limit) (ArePlaced-empty limit)
+
+pub HoldsItems-placed : (key : List ℕ) (item : Stored) (n : ℕ) (old new : Places (Option Stored)) → Holds old → new ≡ placed (sticky_of item) key (Some item) (evicted key n old) → HoldsItems new (put_behind n key (item_of item) (items_in old))
+HoldsItems-placed key item n old new holds e =
+    filled_with new (placed (sticky_of item) key item (evicted key n (items_of old))) (put_behind n key (item_of item) (items_in old))
+    (e ∙ ap (λ p. placed (sticky_of item) key (Some item) (evicted key n p)) holds.filled ∙ ap (placed (sticky_of item) key (Some item)) (evicted-map put_in key n (items_of old)) ∙ placed-map put_in (sticky_of item) key item (evicted key n (items_of old)))
+    (sym (placed-map item_of (sticky_of item) key item (evicted key n (items_of old))) ∙ ap (placed (sticky_of item) key (item_of item)) (sym (evicted-map item_of key n (items_of old))))
+    (ArePlaced-placed key (item_of item) (evicted key n (items_in old)) (stored_is_item item) (ArePlaced-evicted key n (items_in old) holds.placed))
+
+-- room, as the items have it
+
+held_weight : (key : List ℕ) (o : Option Stored) → option_map_or (place_weight weigh key) (option_map put_in o) 0 ≡ option_map_or (weigh key) o 0
+held_weight key None = refl
+held_weight key (Some item) = refl
+
+item_weight : (key : List ℕ) (o : Option Stored) → option_map_or (size_of key) (option_map item_of o) 0 ≡ option_map_or (weigh key) o 0
+item_weight key None = refl
+item_weight key (Some item) = refl
+
+module _ (key : List ℕ) (item : Stored) (places : Places (Option Stored)) (filled_is : IsFilled places) where
+  abbrev extra : ℤ
+  extra = pos (weigh key item) -ℤ pos (option_map_or (weigh key) (found key (items_of places)) 0)
+
+  room_shelf : room_for key item places ≡ option_map (map_listed put_in) (room weigh (items_of places) key extra)
+  room_shelf =
+      ap (λ o. room (place_weight weigh) places key (pos (weigh key item) -ℤ pos (option_map_or (place_weight weigh key) o 0))) (found-filled key places filled_is)
+      ∙ ap (λ n. room (place_weight weigh) places key (pos (weigh key item) -ℤ pos n)) (held_weight key (found key (items_of places)))
+      ∙ ap (λ p. room (place_weight weigh) p key extra) filled_is
+      ∙ room-map put_in (place_weight weigh) (items_of places) key extra
+
+  room_items : evicted_for key (item_of item) (items_in places) ≡ option_map (map_listed item_of) (room weigh (items_of places) key extra)
+  room_items =
+      ap (λ o. room size_of (items_in places) key (pos (weigh key item) -ℤ pos (option_map_or (size_of key) o 0))) (found-map item_of key (items_of places))
+      ∙ ap (λ n. room size_of (items_in places) key (pos (weigh key item) -ℤ pos n)) (item_weight key (found key (items_of places)))
+      ∙ room-map item_of size_of (items_of places) key extra
+
+  none_by : (o : Option (List (List ℕ × Stored))) → room_for key item places ≡ option_map (map_listed put_in) o → evicted_for key (item_of item) (items_in places) ≡ option_map (map_listed item_of) o
+      → room_for key item places ≡ None → evicted_for key (item_of item) (items_in places) ≡ None
+  none_by None e f h = f
+  none_by (Some gone) e f h = absurd (let k : ◌≡◌ {A = Option (List (List ℕ × Option Stored))} (Some (map_listed put_in gone)) None = sym e ∙ h in cc)
+
+  no_room : room_for key item places ≡ None → evicted_for key (item_of item) (items_in places) ≡ None
+  no_room = none_by (room weigh (items_of places) key extra) room_shelf room_items
+
+  gone_by : (o : Option (List (List ℕ × Stored))) (gone : List (List ℕ × Option Stored)) → room_for key item places ≡ option_map (map_listed put_in) o → evicted_for key (item_of item) (items_in places) ≡ option_map (map_listed item_of) o
+      → room_for key item places ≡ Some gone → (less : List (List ℕ × Item)) × (evicted_for key (item_of item) (items_in places) ≡ Some less) × (length less ≡ length gone)
+  gone_by None gone e f h = absurd (let k : ◌≡◌ {A = Option (List (List ℕ × Option Stored))} None (Some gone) = sym e ∙ h in cc)
+  gone_by (Some some) gone e f h =
+      let k : ◌≡◌ {A = Option (List (List ℕ × Option Stored))} (Some (map_listed put_in some)) (Some gone) = sym e ∙ h in
+      (map_listed item_of some, f, length-map some (λ place. (place.0, item_of place.1)) ∙ sym (length-map some (λ place. (place.0, put_in place.1))) ∙ ap length (some_some (map_listed put_in some) gone k))
+
+  some_room : (gone : List (List ℕ × Option Stored)) → room_for key item places ≡ Some gone → (less : List (List ℕ × Item)) × (evicted_for key (item_of item) (items_in places) ≡ Some less) × (length less ≡ length gone)
+  some_room gone = gone_by (room weigh (items_of places) key extra) gone room_shelf room_items
+
+-- what putting an item leaves, as the items have it
+pub record Leaves (places : Places (Option Stored)) (What : Places Item → Type 0) : Type 0 where
+  pub holds : Holds places
+  pub what : What (items_in places)
+
+pub put_leaves : (key : List ℕ) (item : Stored) (old new : Places (Option Stored)) (answer : Put) → Holds old → ShelfPut key item old new answer → Leaves new (λ items. Puts key (item_of item) (items_in old) items answer)
+put_leaves key item old new put.Done holds h =
+    let g = some_room key item old holds.filled h.gone h.fits in
+    let after = HoldsItems-placed key item (length h.gone) old new holds h.places in
+    record { holds = after.holds; what = record { gone = g.0; fits = g.1; places = after.are ∙ ap (λ n. put_behind n key (item_of item) (items_in old)) (sym g.2) } }
+put_leaves key item old new put.NoRoom holds h =
+    record { holds = subst (λ p. Holds p) (sym h.1) holds; what = (no_room key item old holds.filled h.0, ap items_in h.1) }
+put_leaves key item old new put.NoMemory holds h =
+    record { holds = subst (λ p. Holds p) (sym h) holds; what = ap items_in h }
+
+-- what another expiry leaves
+
+pub stays_item : (expiry : Expiry) (item : Item) → IsItem item → IsItem (with_expiry expiry item)
+stays_item expiry (key_value flags old unique value) ok = ok
+
+pub sticky_stays : (expiry : Expiry) (item : Item) → is_sticky (expiry_of (with_expiry expiry item)) ≡ is_sticky expiry
+sticky_stays expiry (key_value flags old unique value) = refl
+
+pub expiry_leaves : (key : List ℕ) (expiry : Expiry) (old new : Places (Option Stored)) → Holds old → IsRetimed key expiry old new → Leaves new (λ items. HasExpiry key expiry (items_in old) items)
+expiry_leaves key expiry old new holds r =
+    let side : sticky_of r.is ≡ is_sticky expiry = ap (λ i. is_sticky (expiry_of i)) r.expires ∙ sticky_stays expiry (item_of r.was) in
+    let made : new ≡ placed (sticky_of r.is) key (Some r.is) (evicted key 0 old) = r.places ∙ (λ i. placed (sym side i) key (Some r.is) (sym (evicted-none key old) i)) in
+    let after = HoldsItems-placed key r.is 0 old new holds made in
+    let there : found key (items_in old) ≡ Some (item_of r.was) = found-items key old holds.filled ∙ ap (λ o. option_map item_of (option_flatten o)) r.held in
+    let are : items_in new ≡ placed (is_sticky expiry) key (with_expiry expiry (item_of r.was)) (items_in old) =
+    after.are ∙ ap (placed (sticky_of r.is) key (item_of r.is)) (evicted-none key (items_in old)) ∙ (λ i. placed (side i) key (r.expires i) (items_in old)) in
+    record { holds = after.holds; what = record { item = item_of r.was; held = there; places = are } }
+
+-- what is told of the shelf, as the items have it
+
+pub sum_is : (places : Places (Option Stored)) → Holds places → total_of (place_weight weigh) places ≡ total_of size_of (items_in places)
+sum_is places holds = ap (total_of (place_weight weigh)) holds.filled ∙ total-map put_in (place_weight weigh) (items_of places) ∙ sym (total-map item_of size_of (items_of places))
+
+pub count_is : (places : Places (Option Stored)) → Holds places → count_of places ≡ count_of (items_in places)
+count_is places holds = ap count_of holds.filled ∙ count-map put_in (items_of places) ∙ sym (count-map item_of (items_of places))
+
+copied_map : (o : Option (Bor Stored)) → option_map item_of (option_copied o) ≡ option_map (λ stored. item_of stored.now) o
+copied_map None = refl
+copied_map (Some stored) = refl
+
+pub look_is : (key : List ℕ) (places : Places (Option Stored)) (o : Option (Bor Stored)) → Holds places → option_copied o ≡ item_at key places → found key (items_in places) ≡ option_map (λ stored. item_of stored.now) o
+look_is key places o holds h = found-items key places holds.filled ∙ ap (option_map item_of) (sym h) ∙ copied_map o
+
+stored_by : (o : Option Stored) (p : Option (Option Stored)) (item : Item) → p ≡ option_map put_in o → option_map item_of o ≡ Some item → (stored : Stored) × (p ≡ Some (Some stored)) × (item_of stored ≡ item)
+stored_by None p item e h = absurd (cc)
+stored_by (Some stored) p item e h = (stored, e, some_some (item_of stored) item h)
+
+-- what is held is stored
+pub stored_under : (key : List ℕ) (places : Places (Option Stored)) (item : Item) → Holds places → found key (items_in places) ≡ Some item → (stored : Stored) × (found key places ≡ Some (Some stored)) × (item_of stored ≡ item)
+stored_under key places item holds h = stored_by (found key (items_of places)) (found key places) item (found-filled key places holds.filled) (sym (found-map item_of key (items_of places)) ∙ h)
+
+pub retimes_leave : (key : List ℕ) (expiry : Expiry) (old new : Places (Option Stored)) (result : Result Prim.Unit NoMemory) → Holds old → Retimes key expiry old new result → Leaves new (λ items. Expires key expiry (items_in old) items result)
+retimes_leave key expiry old new (Ok u) holds h = expiry_leaves key expiry old new holds h
+retimes_leave key expiry old new (Err u) holds h = record {
+  holds = subst (λ p. Holds p) (sym h.0) holds;
+  what = (ap items_in h.0, λ item there same. let s = stored_under key old item holds there in h.1 s.0 s.1 (ap (λ i. is_sticky (expiry_of i)) s.2 ∙ same));
+}

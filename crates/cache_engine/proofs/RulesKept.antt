@@ -1,0 +1,236 @@
+-- A step keeps the rules of a state.
+use Rattle.std.proofs.Common.{◌≡◌, ◌+◌, ◌<◌, ◌≤◌, ◌^◌, ℕ, suc, max, Bool, true, false, cond, nat_lt, List, [], ◌∷◌, length, Option, Some, None, option_map, ℤ, pos, negsuc, ◌-ℤ◌, refl, sym, ap, ◌∙◌, subst, arith}
+use Rattle.std.proofs.lemmas.Bool.{leb-true}
+use Rattle.std.proofs.lemmas.Bool.Decides.{nat_tests}
+use Rattle.std.proofs.lemmas.Int.{ints}
+use Rattle.std.specs.Prelude.{◌==◌}
+use Rattle.std.specs.Option.{unwrap_or}
+use Rattle.arc_core.specs.declared.items.Expiry.{Expiry}
+use Rattle.arc_core.specs.declared.requests.StoreVerb.{StoreVerb}
+use Rattle.arc_core.specs.declared.requests.StoreVerb.TheVariants as verb
+use Rattle.arc_core.specs.declared.replies.Reply.{Reply}
+use Rattle.arc_core.specs.PlainRequest.{PlainAct, PlainRequest}
+use Rattle.arc_core.specs.PlainRequest as act
+use Rattle.arc_core.specs.Words.{words, number_below, keys_counted}
+use Rattle.arc_core.specs.KeyValueGrammar as grammar
+use Rattle.arc_core.specs.KeyValueGrammar.{Command}
+use Rattle.arc_core.specs.Grammar.{act_of, IsBlockFor, CanBeSpelled}
+use Rattle.arc_core.specs.Item.{Item, key_value, IsItem, size_of, expiry_of, expiry_at, is_sticky, has_expired}
+use Rattle.arc_core.specs.Places.{Places, empty_places, found, touched, placed, without, total_of}
+use Rattle.arc_core.specs.Room.{room, fits, evicted}
+use Rattle.arc_core.specs.CacheState.{CacheState, IsState, ArePlaced}
+use Rattle.arc_core.specs.Step.{Plan, tell, put, take_away, take_all, extra_of, put_behind, carried_out, ended, named_keys, started, step, unexpired, without_expired, used, used_at, put_joined, counted, plan_of_store, plan_of_next, plan_of_count, plan_of_delete, plan_of_touch, plan_of}
+use Rattle.byte_account.specs.declared.room.Room.TheVariants.{Fits}
+use Rattle.byte_account.specs.LeastEviction.{IsLeastEviction}
+use Rattle.byte_account.specs.ShelfWords.{room_answer}
+use Rattle.byte_account.proofs.ShelfLists.{weight_under}
+use Rattle.byte_account.proofs.PlacesLaws.{total-touched, total-without, total-placed, HasEachKeyOnce-evicted}
+use Rattle.byte_account.proofs.AccountingLaws.{IsAccounted-empty}
+use Rattle.byte_account.proofs.FoundLaws.{found-evicted}
+use Rattle.byte_account.proofs.RoomLaws.{IsLeastEviction-room}
+use Rattle.byte_account.proofs.EvictionLaws.{evicted_makes_room}
+use Rattle.cache_engine.proofs.ItemPlaces.{ArePlaced-touched, ArePlaced-without, ArePlaced-evicted, ArePlaced-placed, ArePlaced-empty, stays_item}
+use Rattle.cache_engine.proofs.Texts.{decimal_long}
+
+-- THE PLACES
+
+-- The items keep their rules, and their stated sizes are within the limit.
+record Keeps (places : Places Item) : Type 0 where
+  placed : ArePlaced places
+  within : total_of size_of places ≤ places.limit
+
+Keeps-without : (key : List ℕ) (places : Places Item) → Keeps places → Keeps (without key places)
+Keeps-without key places keeps = record { placed = ArePlaced-without key places keeps.placed; within = omega (arith, total-without size_of key places keeps.placed.once, keeps.within) }
+
+Keeps-touched : (key : List ℕ) (places : Places Item) → Keeps places → Keeps (touched key places)
+Keeps-touched key places keeps = record { placed = ArePlaced-touched key places keeps.placed; within = omega (arith, total-touched size_of key places keeps.placed.once, keeps.within) }
+
+Keeps-empty : (limit : ℕ) → Keeps (empty_places limit)
+Keeps-empty limit = record { placed = ArePlaced-empty limit; within = omega (arith, (IsAccounted-empty size_of limit).sum) }
+
+either : (b : Bool) (p q : Places Item) → Keeps p → Keeps q → Keeps (cond b p q)
+either true p q here there = here
+either false p q here there = there
+
+Keeps-without_expired : (latest : ℕ) (key : List ℕ) (o : Option Item) (places : Places Item) → Keeps places → Keeps (without_expired latest key o places)
+Keeps-without_expired latest key None places keeps = keeps
+Keeps-without_expired latest key (Some item) places keeps = either (has_expired latest (expiry_of item)) _ _ (Keeps-without key places keeps) keeps
+
+Keeps-unexpired : (latest : ℕ) (keys : List (List ℕ)) (places : Places Item) → Keeps places → Keeps (unexpired latest keys places)
+Keeps-unexpired latest [] places keeps = keeps
+Keeps-unexpired latest (key ∷ keys) places keeps = Keeps-unexpired latest keys _ (Keeps-without_expired latest key (found key places) places keeps)
+
+Keeps-used_at : (latest : ℕ) (key : List ℕ) (o : Option Item) (places : Places Item) → Keeps places → Keeps (used_at latest key o places)
+Keeps-used_at latest key None places keeps = keeps
+Keeps-used_at latest key (Some item) places keeps = either (has_expired latest (expiry_of item)) _ _ keeps (Keeps-touched key places keeps)
+
+Keeps-used : (latest : ℕ) (keys : List (List ℕ)) (places : Places Item) → Keeps places → Keeps (used latest keys places)
+Keeps-used latest [] places keeps = keeps
+Keeps-used latest (key ∷ keys) places keeps = Keeps-used latest keys _ (Keeps-used_at latest key (found key places) places keeps)
+
+-- what fits is within the limit
+fits_within : (limit total size less : ℕ) (extra : ℤ) → extra ≡ pos size -ℤ pos less → fits limit total extra 0 ≡ true → total + size ≤ limit + less
+fits_within limit total size less (pos more) is kept = let up = leb-true (total + more) (limit + 0) kept in omega (arith, ints, up)
+fits_within limit total size less (negsuc fewer) is kept = let up = leb-true total (limit + 0 + suc fewer) kept in omega (arith, ints, up)
+
+same_limit : (sticky : Bool) (key : List ℕ) (item : Item) (places : Places Item) → (placed sticky key item places).limit ≡ places.limit
+same_limit true key item places = refl
+same_limit false key item places = refl
+
+module _ (state : CacheState) (key : List ℕ) (item : Item) where
+  Keeps-put : (gone : List (List ℕ × Item)) → IsItem item → room size_of state.places key (extra_of state key item) ≡ Some gone → Keeps state.places → Keeps (put_behind (length gone) key item state.places)
+  Keeps-put gone ok h keeps =
+      let n = length gone in
+      let places = state.places in
+      let side = is_sticky (expiry_of item) in
+      let least : IsLeastEviction size_of places key (extra_of state key item) (Fits n) =
+      subst (λ g. IsLeastEviction size_of places key (extra_of state key item) (room_answer g)) h (IsLeastEviction-room size_of places key (extra_of state key item)) in
+      let roomy = fits_within places.limit (total_of size_of (evicted key n places)) (size_of key item) (weight_under size_of key (found key places)) (extra_of state key item) refl (evicted_makes_room size_of key n places (extra_of state key item) least) in
+      let sum = total-placed size_of side key item (evicted key n places) (HasEachKeyOnce-evicted key n places keeps.placed.once) in
+      let held = ap (weight_under size_of key) (found-evicted key n places) in
+      record {
+        placed = ArePlaced-placed key item (evicted key n places) ok (ArePlaced-evicted key n places keeps.placed);
+        within = omega (arith, roomy, sum, held, same_limit side key item (evicted key n places));
+      }
+
+-- THE PLANS
+
+-- what is put is an item
+PutsItem : Plan → Type 0
+PutsItem (tell reply) = Unit {0}
+PutsItem (put key item counter reply) = IsItem item
+PutsItem (take_away key reply) = Unit {0}
+PutsItem (take_all reply) = Unit {0}
+
+plan_either : (b : Bool) (p q : Plan) → (b ≡ true → PutsItem p) → (b ≡ false → PutsItem q) → PutsItem (cond b p q)
+plan_either true p q here there = here refl
+plan_either false p q here there = there refl
+
+not_more : (n : ℕ) → nat_lt 1048576 n ≡ false → n ≤ 1048576
+not_more n h = grind (arith, nat_tests)
+
+module _ (state : CacheState) (key : List ℕ) where
+  joined-is_item : (flags : ℕ) (expiry : Expiry) (value : List ℕ) → PutsItem (put_joined state key flags expiry value)
+  unfolding PutsItem
+  joined-is_item flags expiry value = plan_either (nat_lt 1048576 (length value)) _ _ (λ e. tt) (λ e. not_more (length value) e)
+
+  store-is_item : (verb : StoreVerb) (flags : ℕ) (exptime : ℤ) (value : List ℕ) (held : Option Item) → length value ≤ 1048576 → PutsItem (plan_of_store state verb key flags exptime value held)
+  unfolding PutsItem
+  store-is_item verb.Set flags exptime value held small = small
+  store-is_item verb.Add flags exptime value None small = small
+  store-is_item verb.Add flags exptime value (Some item) small = tt
+  store-is_item verb.Replace flags exptime value None small = tt
+  store-is_item verb.Replace flags exptime value (Some item) small = small
+  store-is_item verb.Append flags exptime value None small = tt
+  store-is_item verb.Append flags exptime value (Some (key_value old expiry unique was)) small = joined-is_item old expiry _
+  store-is_item verb.Prepend flags exptime value None small = tt
+  store-is_item verb.Prepend flags exptime value (Some (key_value old expiry unique was)) small = joined-is_item old expiry _
+  store-is_item (verb.Cas asked) flags exptime value None small = tt
+  store-is_item (verb.Cas asked) flags exptime value (Some (key_value old expiry unique was)) small = plan_either (unique == asked) _ _ (λ e. small) (λ e. tt)
+
+  next-is_item : (up : Bool) (delta flags : ℕ) (expiry : Expiry) (number : Option ℕ) → PutsItem (plan_of_next state up key delta flags expiry number)
+  unfolding PutsItem
+  next-is_item up delta flags expiry None = tt
+  next-is_item up delta flags expiry (Some n) = omega (arith, decimal_long (counted up delta n))
+
+  count-is_item : (up : Bool) (delta : ℕ) (initial : Option (ℕ × ℤ × ℕ)) (held : Option Item) → PutsItem (plan_of_count state up key delta initial held)
+  unfolding PutsItem
+  count-is_item up delta None None = tt
+  count-is_item up delta (Some initial) None = omega (arith, decimal_long initial.2)
+  count-is_item up delta initial (Some (key_value flags expiry unique value)) = next-is_item up delta flags expiry (number_below (2 ^ 64) value)
+
+  touch-is_item : (exptime : ℤ) (held : Option Item) → ((item : Item) → held ≡ Some item → IsItem item) → PutsItem (plan_of_touch state key exptime held)
+  unfolding PutsItem
+  touch-is_item exptime None ok = tt
+  touch-is_item exptime (Some item) ok = stays_item (expiry_at state.latest exptime) item (ok item refl)
+
+  delete-is_item : (held : Option Item) → PutsItem (plan_of_delete key held)
+  unfolding PutsItem
+  delete-is_item None = tt
+  delete-is_item (Some item) = tt
+
+-- the value of a storing request is within its limit
+IsShort : PlainAct → Type 0
+IsShort (act.store verb key flags exptime value) = length value ≤ 1048576
+IsShort (act.get keys unique) = Unit {0}
+IsShort (act.count up key delta initial) = Unit {0}
+IsShort (act.delete key) = Unit {0}
+IsShort (act.touch key exptime) = Unit {0}
+IsShort act.flush_all = Unit {0}
+IsShort act.version = Unit {0}
+
+plan-is_item : (state : CacheState) (a : PlainAct) → IsShort a → ArePlaced state.places → PutsItem (plan_of state a)
+unfolding PutsItem IsShort
+plan-is_item state (act.store verb key flags exptime value) small are = store-is_item state key verb flags exptime value _ small
+plan-is_item state (act.get keys unique) small are = tt
+plan-is_item state (act.count up key delta initial) small are = count-is_item state key up delta initial _
+plan-is_item state (act.delete key) small are = delete-is_item state key _
+plan-is_item state (act.touch key exptime) small are = touch-is_item state key exptime _ (are.items key)
+plan-is_item state act.flush_all small are = tt
+plan-is_item state act.version small are = tt
+
+-- THE STEP
+
+-- the state keeps the rules, and this is its latest second
+record KeepsAt (latest : ℕ) (state : CacheState) : Type 0 where
+  second : state.latest ≡ latest
+  keeps : Keeps state.places
+
+put_keeps : (state : CacheState) (key : List ℕ) (item : Item) (counter : ℕ) (reply : Reply) (keys : List (List ℕ)) (o : Option (List (List ℕ × Item))) → room size_of state.places key (extra_of state key item) ≡ o → IsItem item → Keeps state.places
+    → KeepsAt state.latest (ended state keys (option_map {U = CacheState × Reply} (λ gone. (record state { counter = counter; places = put_behind (length gone) key item state.places }, reply)) o)).0
+put_keeps state key item counter reply keys None h ok keeps = record { second = refl; keeps = keeps }
+put_keeps state key item counter reply keys (Some gone) h ok keeps = record { second = refl; keeps = Keeps-used state.latest keys _ (Keeps-put state key item gone ok h keeps) }
+
+plan_keeps : (state : CacheState) (plan : Plan) (keys : List (List ℕ)) → PutsItem plan → Keeps state.places → KeepsAt state.latest (ended state keys (carried_out state plan)).0
+unfolding PutsItem
+plan_keeps state (tell reply) keys ok keeps = record { second = refl; keeps = Keeps-used state.latest keys _ keeps }
+plan_keeps state (put key item counter reply) keys ok keeps = put_keeps state key item counter reply keys (room size_of state.places key (extra_of state key item)) refl ok keeps
+plan_keeps state (take_away key reply) keys ok keeps = record { second = refl; keeps = Keeps-used state.latest keys _ (Keeps-without key state.places keeps) }
+plan_keeps state (take_all reply) keys ok keeps = record { second = refl; keeps = Keeps-used state.latest keys _ (Keeps-empty state.places.limit) }
+
+max_below : (a b n : ℕ) → a < n → b < n → max a b < n
+max_below a b n p q = omega arith
+
+step_of : (old : CacheState) (now : ℕ) (request : PlainRequest) → IsState old → now < 2 ^ 32 → IsShort request.act → IsState (step old now request).0
+step_of old now request rules time small =
+    let keys = named_keys request.act in
+    let start = started old now keys in
+    let keeps : Keeps start.places = Keeps-unexpired (max old.latest now) keys old.places (record { placed = rules.placed; within = rules.within }) in
+    let end = plan_keeps start (plan_of start request.act) keys (plan-is_item start request.act small keeps.placed) keeps in
+    record {
+      placed = end.keeps.placed;
+      second = subst (λ n. n < 2 ^ 32) (sym end.second) (max_below old.latest now (2 ^ 32) rules.second time);
+      within = end.keeps.within;
+    }
+
+some_act : (a b : PlainAct) → ◌≡◌ {A = Option PlainAct} (Some a) (Some b) → a ≡ b
+some_act a b h = cc
+
+keys_short : (o : Option (List (List ℕ))) (a : PlainAct) → option_map (λ keys. act.get keys false) o ≡ Some a → IsShort a
+unfolding IsShort
+keys_short None a h = absurd (cc)
+keys_short (Some keys) a h = subst IsShort (some_act (act.get keys false) a h) tt
+
+act_short : (command : Command) (block : List ℕ) (a : PlainAct) → IsBlockFor command block → act_of command block ≡ Some a → IsShort a
+unfolding IsShort
+act_short (grammar.store verb key flags exptime len) block a meets h = subst IsShort (some_act (act.store verb key flags exptime block) a h) (omega (arith, meets.0, meets.1))
+act_short (grammar.get keys unique) block a meets h = subst IsShort (some_act (act.get keys unique) a h) tt
+act_short (grammar.get_block len number) block a meets h = keys_short (keys_counted number (words block)) a h
+act_short (grammar.count up key delta initial) block a meets h = subst IsShort (some_act (act.count up key delta initial) a h) tt
+act_short (grammar.delete key) block a meets h = subst IsShort (some_act (act.delete key) a h) tt
+act_short (grammar.touch key exptime) block a meets h = subst IsShort (some_act (act.touch key exptime) a h) tt
+act_short grammar.flush_all block a meets h = subst IsShort (some_act act.flush_all a h) tt
+act_short grammar.version block a meets h = subst IsShort (some_act act.version a h) tt
+act_short grammar.quit block a meets h = absurd (cc)
+
+request_short : (command : Command) (block : List ℕ) (o : Option PlainAct) (make : PlainAct → PlainRequest) (request : PlainRequest) → ((a : PlainAct) → (make a).act ≡ a) → IsBlockFor command block → act_of command block ≡ o → option_map make o ≡ Some request → IsShort request.act
+request_short command block None make request same meets e h = absurd (cc)
+request_short command block (Some a) make request same meets e h =
+    subst IsShort (sym (same a) ∙ ap (λ o. (unwrap_or {T = PlainRequest} o request).act) h) (act_short command block a meets e)
+
+pub step_keeps : (old : CacheState) (now : ℕ) (request : PlainRequest) → IsState old → now < 2 ^ 32 → CanBeSpelled request → IsState (step old now request).0
+step_keeps old now request rules time spelled =
+    let head = spelled.2.0 in
+    let block = spelled.1 in
+    step_of old now request rules time
+    (request_short head.command block (act_of head.command block) (λ a. record { act = a; answer = head.answer }) request (λ a. refl) spelled.2.2 refl spelled.2.3)

@@ -1,0 +1,119 @@
+//! The held items in their places.
+ghost use Rattle.std.specs.Prelude.{◌≡◌, ◌≤◌, IfOk};
+ghost use Rattle.std.specs.Option.{option_map};
+ghost use Rattle.arc_core.specs.Item.{size_of, with_expiry};
+ghost use Rattle.arc_core.specs.Places.{empty_places, found, count_of, total_of, touched, without};
+ghost use Rattle.arc_core.specs.CacheState.{ArePlaced};
+ghost use Rattle.cache_engine.specs.Stored.{item_of};
+ghost use Rattle.cache_engine.specs.Changes.{Puts, IsUnder, Expires};
+
+use crate::puts::{Put, put_item};
+use crate::retiming::set_expiry;
+use crate::stored::Stored;
+use arc_core::{Expiry, KeyRef, NoMemory};
+use byte_account::Shelf;
+use std::alloc::Global;
+use std::marker::Model;
+
+/// The held items. Contracts see them in their places; they keep the rules on items, and no key has two.
+#[derive(Drop)]
+pub struct Items {
+    alloc: Global,
+    shelf: Shelf<Stored>,
+}
+
+impl Model for Items {
+    ghost use Rattle.arc_core.specs.Item.{Item};
+    ghost use Rattle.arc_core.specs.Places.{Places};
+    ghost use Rattle.cache_engine.specs.Stored.{items_in, Holds};
+    ghost use Rattle.std.specs.FinMap as finite;
+    ghost use Rattle.std.specs.Coded.{codes};
+
+    ghost Value = { Places Item };
+
+    ghost coded = { Prim.hlevel (codes, finite.code) };
+
+    ghost view = { λ items. items_in items.shelf };
+
+    ghost invariant = { λ items. Holds items.shelf };
+}
+
+impl Items {
+    /// No items, within this limit in bytes. `NoMemory` comes for want of memory alone.
+    pub fn new(alloc: Global, limit: u64) -> Result<Items, NoMemory>
+        ensures { IfOk result (λ items. items ≡ empty_places limit) }
+    {
+        let shelf = Shelf::new(alloc, limit)?;
+        Ok(Items { alloc, shelf })
+    }
+
+    /// The stated sizes of all items, in bytes, which are within the limit.
+    pub fn total(&self) -> u64
+        ensures sum { result ≡ total_of size_of self.now }
+        ensures within { result ≤ self.now.limit }
+        ensures placed { ArePlaced self.now }
+    {
+        self.shelf.total()
+    }
+
+    /// The rules that the items keep. (This law is all that the function does.)
+    pub fn rules(&self)
+        ensures placed { ArePlaced self.now }
+        ensures within { total_of size_of self.now ≤ self.now.limit }
+    {
+        let _ = self.total();
+    }
+
+    /// How many items there are.
+    pub fn count(&self) -> u64
+        ensures { result ≡ count_of self.now }
+    {
+        self.shelf.count()
+    }
+
+    /// The item under the key.
+    pub fn look(&self, key: &[u8]) -> Option<&Stored>
+        ensures item { found key.now self.now ≡ option_map (λ stored. item_of stored.now) result }
+        ensures placed { ArePlaced self.now }
+    {
+        self.shelf.look(key)
+    }
+
+    /// Marks the key as used: where it has a place on the shelf, that moves to the front.
+    pub fn touch(&mut self, key: &[u8])
+        ensures { self.new ≡ touched key.now self.old }
+    {
+        self.shelf.touch(key);
+    }
+
+    /// Takes the item under the key away, if there is one.
+    pub fn remove(&mut self, key: &[u8])
+        ensures { self.new ≡ without key.now self.old }
+    {
+        self.shelf.remove(key);
+    }
+
+    /// Takes all items away.
+    pub fn clear(&mut self)
+        ensures { self.new ≡ empty_places self.old.limit }
+    {
+        self.shelf.clear();
+    }
+
+    /// Puts an item under the key, behind as few evictions as make room for it.
+    pub fn put(&mut self, key: &KeyRef<'_>, item: Stored) -> Put
+        ensures { Puts key.now (item_of item) self.old self.new result }
+    {
+        put_item(&mut self.shelf, self.alloc, key, item)
+    }
+
+    /// Gives the item that is held under the key another expiry, and its place on the side where it belongs then.
+    ///
+    /// `NoMemory` comes only where it gets to be sticky or is no longer so, and then nothing has changed.
+    pub fn set_expiry(&mut self, key: &[u8], expiry: Expiry) -> Result<(), NoMemory>
+        requires { IsUnder key.now self.old }
+        ensures { Expires key.now expiry self.old self.new result }
+    {
+        set_expiry(&mut self.shelf, key, expiry)
+    }
+}

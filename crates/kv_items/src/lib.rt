@@ -1,0 +1,12 @@
+//! Key-value items: a value with its client flags, expiry and cas unique, and what is made of it.
+#![tactic(auto)]
+
+mod counts;
+mod item;
+mod joins;
+#[cfg(test)]
+mod tests;
+
+pub use counts::{NotNumeric, counted};
+pub use item::KvItem;
+pub use joins::JoinFault;

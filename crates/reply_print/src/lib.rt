@@ -1,0 +1,14 @@
+//! The texts of replies: what is sent for each, from any place of it on.
+#![tactic(auto)]
+
+mod buffer;
+mod gatherer;
+mod lines;
+mod sending;
+#[cfg(test)]
+mod tests;
+mod texts;
+mod wrote;
+
+pub use texts::{reply_len, write_reply, write_word};
+pub use wrote::Wrote;

@@ -1,0 +1,72 @@
+//! The parts of texts.
+ghost use Rattle.std.specs.Prelude.{◌≡◌, ◌+◌, ◌≤◌, [], ◌++◌, length, codes, decimal};
+ghost use Rattle.std.specs.Option.{option_map_or};
+ghost use Rattle.arc_core.specs.ReplyText.{word_line, line_end};
+ghost use Rattle.reply_print.specs.Parts.{row_tail};
+
+use crate::buffer::Buffer;
+use arc_core::{ValueRow, Word};
+
+/// The most bytes of a short part.
+const SHORT_BYTES: usize = 128;
+
+/// The line of a word.
+pub(crate) fn line_of(word: Word) -> &'static [u8]
+    ensures line { result.now ≡ word_line word }
+    ensures short { length result.now ≤ 128 }
+{
+    match word {
+        Word::Stored => b"STORED\r\n",
+        Word::NotStored => b"NOT_STORED\r\n",
+        Word::Exists => b"EXISTS\r\n",
+        Word::NotFound => b"NOT_FOUND\r\n",
+        Word::Deleted => b"DELETED\r\n",
+        Word::Touched => b"TOUCHED\r\n",
+        Word::Ok => b"OK\r\n",
+        Word::Version => b"VERSION arcus-profile-1\r\n",
+        Word::NotNumeric => b"CLIENT_ERROR cannot increment or decrement non-numeric value\r\n",
+        Word::TooLarge => b"CLIENT_ERROR too large value\r\n",
+        Word::OutOfMemory => b"SERVER_ERROR out of memory\r\n",
+        Word::NoMemory => b"SERVER_ERROR no memory from the system\r\n",
+        Word::Unknown => b"ERROR unknown command\r\n",
+        Word::BadFormat => b"CLIENT_ERROR bad command line format\r\n",
+        Word::BadChunk => b"CLIENT_ERROR bad data chunk\r\n",
+        Word::LineTooLong => b"CLIENT_ERROR line too long\r\n",
+    }
+}
+
+/// The line of a number.
+pub(crate) fn number_line(number: u64) -> Buffer<SHORT_BYTES>
+    ensures { result ≡ decimal number ++ line_end }
+{
+    let mut digits = itoa::Buffer::new();
+    let mut line = Buffer::new();
+    line.add(digits.format(number).as_bytes());
+    line.add(b"\r\n");
+    line
+}
+
+/// What stands behind the key in the line of a found item.
+pub(crate) fn tail_of(row: &ValueRow) -> Buffer<SHORT_BYTES>
+    ensures { result ≡ row_tail row.now }
+{
+    let mut tail = Buffer::new();
+    add_number(&mut tail, u64::from(row.flags));
+    add_number(&mut tail, row.value.bytes().len() as u64);
+    if let Some(unique) = row.unique {
+        add_number(&mut tail, unique);
+    }
+    tail.add(b"\r\n");
+    tail
+}
+
+// Puts a blank and a number last, of 40 digits at most.
+fn add_number(line: &mut Buffer<SHORT_BYTES>, number: u64)
+    requires { length line.old + 41 ≤ 128 }
+    ensures line { line.new ≡ line.old ++ codes " " ++ decimal number }
+    ensures len { length line.new ≤ length line.old + 41 }
+{
+    let mut digits = itoa::Buffer::new();
+    line.add(b" ");
+    line.add(digits.format(number).as_bytes());
+}
