@@ -1,4 +1,5 @@
 pub mod Output
+pub mod Waiting
 pub mod Handling
 pub mod Session
 pub mod Reading

@@ -207,6 +207,11 @@ abbrev pub TurnKeeps : ℕ → Progress → Turn → Type 0
 TurnKeeps most progress (turn.More count) = (0 < count) × (count ≤ most) × IsBetweenUnits progress
 TurnKeeps most progress (turn.Over ended) = Unit {0}
 
+-- This holds where the session goes on.
+abbrev pub IfMore : Turn → Type 0 → Type 0
+IfMore (turn.More count) Holds = Holds
+IfMore (turn.Over ended) Holds = Unit {0}
+
 -- the status at the end of the source, by the bytes that came of an unfinished unit
 abbrev pub status_at_end : List ℕ → Status
 status_at_end [] = status.Done

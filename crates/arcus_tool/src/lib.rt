@@ -3,6 +3,7 @@
 
 mod edge;
 mod joined;
+mod outbox;
 mod sessions;
 mod status;
 mod stops;

@@ -1,16 +1,18 @@
 //! One session, from a source to a sink.
-ghost use Rattle.std.specs.Prelude.{◌≡◌, ◌+◌, ◌*◌, ◌^◌, ◌<◌, ◌≤◌, ℕ, List, [], length, None, IfOk, vec_len};
+ghost use Rattle.std.specs.Prelude.{◌≡◌, ◌+◌, ◌*◌, ◌^◌, ◌<◌, ◌≤◌, ℕ, List, [], length, None, IfOk, OnOk, vec_len};
 ghost use Rattle.arc_core.specs.CacheState.{CacheState, opening_state};
 ghost use Rattle.arc_core.specs.Grammar.{line_needs};
 ghost use Rattle.frame_reader.specs.Progress.{StandsFor, ready_unit};
-ghost use Rattle.arcus_tool.specs.Handling.{stand, IsBetweenUnits};
-ghost use Rattle.arcus_tool.specs.Session.{Outside, outside, IsSession, IsComplete, RanSoFar, TurnLeaves, TurnKeeps, status_at_end, IsFresh};
+ghost use Rattle.arcus_tool.specs.Output.{TookNothing};
+ghost use Rattle.arcus_tool.specs.Handling.{Stand, stand, IsBetweenUnits, GoesOn, TakesAll};
+ghost use Rattle.arcus_tool.specs.Session.{Outside, outside, IsSession, IsComplete, RanSoFar, TurnLeaves, TurnKeeps, IfMore, status_at_end, IsFresh};
 
 use crate::joined::{JoinedLink, Joins, Pair};
+use crate::outbox::Outbox;
 use crate::status::Status;
 use crate::stops::{Stop, Turn};
 use crate::units::take_piece;
-use arc_core::{Clock, Executor, Link, NoMemory, Pull, Sink, Source};
+use arc_core::{Clock, Executor, NoMemory, Pull, Sink, Source};
 use cache_engine::{Cache, Settings};
 use frame_reader::{
     Frames, beginnings_agree, reader_stands_for_a_unit, rest_begins_with_no_unit, units_stay,
@@ -25,28 +27,60 @@ const PIECE_BYTES: usize = 16_384;
 /// The most bytes that a session takes.
 const MAX_INPUT: u64 = 1 << 40;
 
-// Pulls once, and handles the units that get whole by the bytes that come.
-fn pull_once<E: Executor, C: Clock, L: Link>(
+// Handles the units that get whole by a piece, and sends their texts. Nothing waits before, and nothing behind.
+fn handle_piece<'a, 'b, S: Source, K: Sink, E: Executor, C: Clock, J: Joins>(
     frames: &mut Frames<KvHeads>,
     exec: &mut E,
     clock: &mut C,
-    link: &mut L,
+    link: &mut JoinedLink<'a, 'b, S, K, J>,
+    piece: &[u8],
+) -> Result<(), Stop>
+    requires at_start { IsBetweenUnits frames.old }
+    requires nothing_waits { link.old.outbox ≡ [] }
+    ensures at_end { OnOk result (IsBetweenUnits frames.new) }
+    ensures nothing_waits { OnOk result (link.new.outbox ≡ []) }
+    ensures goes { (from : Stand) (taken : List ℕ) → from.sent ≡ J.sent → GoesOn from
+        (stand (E.state exec.old) (C.coming clock.old) (K.sent link.old.sink.now) (K.write_faults link.old.sink.now) (K.refusals link.old.sink.now))
+        taken frames.old piece.now
+        → TakesAll from
+        (stand (E.state exec.new) (C.coming clock.new) (K.sent link.new.sink.now) (K.write_faults link.new.sink.now) (K.refusals link.new.sink.now))
+        taken frames.new result }
+    ensures source { TookNothing (S.left link.old.source.now) (S.left link.new.source.now) (S.read_faults link.old.source.now) (S.read_faults link.new.source.now) }
+{
+    match take_piece(frames, exec, clock, link, piece) {
+        Ok(()) => link.flush(),
+        Err(Stop::Quit) => link.flush().and(Err(Stop::Quit)),
+        Err(Stop::LineTooLong) => link.flush().and(Err(Stop::LineTooLong)),
+        Err(Stop::Failed) => Err(Stop::Failed),
+        Err(Stop::NoMemory) => Err(Stop::NoMemory),
+    }
+}
+
+// Pulls once, handles the units that get whole by the bytes that come, and sends their texts.
+fn pull_once<'a, 'b, S: Source, K: Sink, E: Executor, C: Clock, J: Joins>(
+    frames: &mut Frames<KvHeads>,
+    exec: &mut E,
+    clock: &mut C,
+    link: &mut JoinedLink<'a, 'b, S, K, J>,
     buffer: &mut [u8],
 ) -> Turn
     requires some { 0 < length buffer.old }
     requires at_start { IsBetweenUnits frames.old }
+    requires nothing_waits { link.old.outbox ≡ [] }
     ensures keeps { TurnKeeps (length buffer.old) frames.new result }
+    ensures nothing_waits { IfMore result (link.new.outbox ≡ []) }
     ensures leaves { (opening : CacheState) (before : Outside) (taken : List ℕ) → length taken + length buffer.old ≤ 2 ^ 40
+        → before.sent ≡ J.sent
         → RanSoFar opening before
-        (stand (E.state exec.old) (C.coming clock.old) (L.sent link.old) (L.write_faults link.old) (L.refusals link.old))
-        (L.left link.old) (L.read_faults link.old) frames.old taken
+        (stand (E.state exec.old) (C.coming clock.old) (K.sent link.old.sink.now) (K.write_faults link.old.sink.now) (K.refusals link.old.sink.now))
+        (S.left link.old.source.now) (S.read_faults link.old.source.now) frames.old taken
         → TurnLeaves opening before
-        (stand (E.state exec.new) (C.coming clock.new) (L.sent link.new) (L.write_faults link.new) (L.refusals link.new))
-        (L.left link.new) (L.read_faults link.new) frames.new taken result }
+        (stand (E.state exec.new) (C.coming clock.new) (K.sent link.new.sink.now) (K.write_faults link.new.sink.now) (K.refusals link.new.sink.now))
+        (S.left link.new.source.now) (S.read_faults link.new.source.now) frames.new taken result }
 {
     reader_stands_for_a_unit();
-    match link.pull(buffer) {
-        Pull::Got(count) => match take_piece(frames, exec, clock, link, &buffer[..count]) {
+    match link.receive(buffer) {
+        Pull::Got(count) => match handle_piece(frames, exec, clock, link, &buffer[..count]) {
             Ok(()) => Turn::More(count),
             Err(Stop::Quit) => Turn::Over(Status::Done),
             Err(Stop::LineTooLong) => Turn::Over(Status::LineTooLong),
@@ -69,19 +103,21 @@ fn at_end(frames: &Frames<KvHeads>) -> Status
     }
 }
 
-// Runs a session on a link to its end. The frames are fresh.
-fn serve<E: Executor, C: Clock, L: Link>(
+// Runs a session on a link to its end. The frames are fresh, and nothing was sent since the two were joined.
+fn serve<'a, 'b, S: Source, K: Sink, E: Executor, C: Clock, J: Joins>(
     frames: &mut Frames<KvHeads>,
     exec: &mut E,
     clock: &mut C,
-    link: &mut L,
+    link: &mut JoinedLink<'a, 'b, S, K, J>,
     buffer: &mut [u8],
 ) -> Status
     requires buffer { 0 < length buffer.old }
     requires fresh { IsFresh frames.old }
+    requires nothing_waits { link.old.outbox ≡ [] }
+    requires sent { K.sent link.old.sink.now ≡ J.sent }
     ensures { IsSession (E.state exec.old)
-        (outside (L.left link.old) (L.read_faults link.old) (L.sent link.old) (L.write_faults link.old) (L.refusals link.old) (C.coming clock.old))
-        (outside (L.left link.new) (L.read_faults link.new) (L.sent link.new) (L.write_faults link.new) (L.refusals link.new) (C.coming clock.new))
+        (outside (S.left link.old.source.now) (S.read_faults link.old.source.now) (K.sent link.old.sink.now) (K.write_faults link.old.sink.now) (K.refusals link.old.sink.now) (C.coming clock.old))
+        (outside (S.left link.new.source.now) (S.read_faults link.new.source.now) (K.sent link.new.sink.now) (K.write_faults link.new.sink.now) (K.refusals link.new.sink.now) (C.coming clock.new))
         result }
 {
     reader_stands_for_a_unit();
@@ -96,9 +132,10 @@ fn serve<E: Executor, C: Clock, L: Link>(
     Status::LongInput
 }
 
-// Runs a session on a source and a sink, which are given back, to its end. The frames are fresh.
+// Runs a session on a source and a sink, which are given back, to its end. The frames are fresh, and the outbox is empty.
 fn serve_pair<'a, 'b, S: Source, K: Sink, C: Clock, E: Executor, J: Joins>(
     pair: Pair<'a, 'b, S, K>,
+    outbox: Outbox,
     clock: &mut C,
     exec: &mut E,
     frames: &mut Frames<KvHeads>,
@@ -106,8 +143,10 @@ fn serve_pair<'a, 'b, S: Source, K: Sink, C: Clock, E: Executor, J: Joins>(
 ) -> (Pair<'a, 'b, S, K>, Status)
     requires buffer { 0 < length buffer.old }
     requires fresh { IsFresh frames.old }
+    requires nothing_waits { outbox ≡ [] }
     requires same_source { pair.source.ghost_name ≡ J.source }
     requires same_sink { pair.sink.ghost_name ≡ J.sink }
+    requires sent { K.sent pair.sink.now ≡ J.sent }
     ensures session { IsSession (E.state exec.old)
         (outside (S.left pair.entry.source.now) (S.read_faults pair.entry.source.now) (K.sent pair.entry.sink.now) (K.write_faults pair.entry.sink.now) (K.refusals pair.entry.sink.now) (C.coming clock.old))
         (outside (S.left result.0.source.now) (S.read_faults result.0.source.now) (K.sent result.0.sink.now) (K.write_faults result.0.sink.now) (K.refusals result.0.sink.now) (C.coming clock.new))
@@ -115,7 +154,7 @@ fn serve_pair<'a, 'b, S: Source, K: Sink, C: Clock, E: Executor, J: Joins>(
     ensures same_source { result.0.source.ghost_name ≡ J.source }
     ensures same_sink { result.0.sink.ghost_name ≡ J.sink }
 {
-    let mut link = JoinedLink::<'a, 'b, S, K, J>::of(pair);
+    let mut link = JoinedLink::<'a, 'b, S, K, J>::of(pair, outbox);
     let status = serve(frames, exec, clock, &mut link, buffer);
     (link.parts(), status)
 }
@@ -180,9 +219,13 @@ fn run_session<S: Source, K: Sink, C: Clock>(
     let Ok(mut buffer) = zeros(alloc, PIECE_BYTES) else {
         return Status::NoMemory;
     };
+    let Ok(outbox) = Outbox::new(alloc) else {
+        return Status::NoMemory;
+    };
     let pair = Pair { source, sink };
     let (_, status) = serve_pair::<S, K, C, Cache, Brand>(
         pair,
+        outbox,
         clock,
         &mut cache,
         &mut frames,

@@ -9,3 +9,6 @@ returns-in_default-new-2 g c = never_began _ _
 
 pub returns-in_default-zeros : goal.returns-in_default-zeros
 returns-in_default-zeros g c = never_began _ _
+
+pub returns-in_default-new-3 : goal.returns-in_default-new-3
+returns-in_default-new-3 g c = never_began _ _

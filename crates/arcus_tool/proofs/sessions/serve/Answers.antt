@@ -7,6 +7,7 @@ pub loop-taken-init : goal.loop-taken-init
 loop-taken-init g c = record {
   few = omega arith;
   between = record { waits = c.requires.fresh.waits; tail = []; stands = c.requires.fresh.stands };
+  nothing_waits = c.requires.nothing_waits;
   ran = ([], refl, ran_nowhere _ _ c.args.frames.now c.requires.fresh.stands);
 }
 
@@ -16,10 +17,11 @@ loop-taken-preserved g c =
     let ran = c.loop-taken.invariant.ran in
     let part = length-take c.min-most.result c.loop-taken.buffer in
     let few : length ran.0 + length (take c.min-most.result c.loop-taken.buffer) ≤ 2 ^ 40 = omega (arith, ran.1, part, c.min-most.ensures, c.loop-taken.invariant.few) in
-    let leaves = c.in-More.ensures.leaves _ _ ran.0 few ran.2 in
+    let leaves = c.in-More.ensures.leaves _ _ ran.0 few c.requires.sent ran.2 in
     record {
       few = omega (arith, ran.1, few, keeps.1);
       between = keeps.2;
+      nothing_waits = c.in-More.ensures.nothing_waits;
       ran = (ran.0 ++ leaves.0, omega (arith, length-append ran.0 leaves.0, leaves.1, ran.1), leaves.2);
     }
 

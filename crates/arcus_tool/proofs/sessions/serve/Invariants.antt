@@ -1,4 +1,4 @@
-use Rattle.std.proofs.Common.{◌≡◌, ◌-◌, ◌≤◌, ◌^◌, ℕ, List, length}
+use Rattle.std.proofs.Common.{◌≡◌, ◌-◌, ◌≤◌, ◌^◌, ℕ, List, [], length}
 use Rattle.arcus_tool.specs.Handling.{stand, IsBetweenUnits}
 use Rattle.arcus_tool.specs.Session.{outside, RanSoFar}
 use Rattle.arcus_tool.proofs.sessions.serve.Given as goal
@@ -8,14 +8,17 @@ abbrev pub invariant-loop-taken : goal.invariant-loop-taken
 invariant-loop-taken g l =
     let exec = g.E.Executor in
     let clock = g.C.Clock in
-    let link = g.L.Link in
+    let source = g.S.Source in
+    let sink = g.K.Sink in
+    let from = l.fn.link in
     record {
       few : l.taken ≤ 2 ^ 40;
       between : IsBetweenUnits l.frames;
+      nothing_waits : l.link.outbox ≡ [];
       ran : (bytes : List ℕ) × (length bytes ≡ l.taken) × RanSoFar (exec.state l.fn.exec)
-          (outside (link.left l.fn.link) (link.read_faults l.fn.link) (link.sent l.fn.link) (link.write_faults l.fn.link) (link.refusals l.fn.link) (clock.coming l.fn.clock))
-          (stand (exec.state l.exec) (clock.coming l.clock) (link.sent l.link) (link.write_faults l.link) (link.refusals l.link))
-          (link.left l.link) (link.read_faults l.link) l.frames bytes;
+          (outside (source.left from.source.now) (source.read_faults from.source.now) (sink.sent from.sink.now) (sink.write_faults from.sink.now) (sink.refusals from.sink.now) (clock.coming l.fn.clock))
+          (stand (exec.state l.exec) (clock.coming l.clock) (sink.sent l.link.sink.now) (sink.write_faults l.link.sink.now) (sink.refusals l.link.sink.now))
+          (source.left l.link.source.now) (source.read_faults l.link.source.now) l.frames bytes;
     }
 
 abbrev pub decreases-loop-taken : goal.decreases-loop-taken
