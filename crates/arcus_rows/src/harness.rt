@@ -22,6 +22,8 @@ pub struct Setting<'a> {
     pub most: usize,
     /// The calls of `pull` that fail, counted from 0.
     pub failing_pulls: &'a [u64],
+    /// The most bytes that a push takes at once.
+    pub takes: usize,
     /// The calls of `push` that fail, counted from 0.
     pub failing_pushes: &'a [u64],
 }
@@ -32,6 +34,7 @@ pub const DEFAULT: Setting<'static> = Setting {
     seconds: &[0],
     most: AT_ONCE,
     failing_pulls: &[],
+    takes: AT_ONCE,
     failing_pushes: &[],
 };
 
@@ -99,10 +102,11 @@ pub fn run_on(
     setting: Setting<'_>,
     input: Vec<u8>,
 ) -> Result<Played<MemorySource, MemorySink, ListClock>, AllocError> {
-    assert!(rt; !setting.seconds.is_empty() && setting.seconds.len() <= 64 && setting.most > 0);
+    assert!(rt; !setting.seconds.is_empty() && setting.seconds.len() <= 64);
+    assert!(rt; setting.most > 0 && setting.takes > 0);
     let words = words_of(alloc, setting.words)?;
     let source = MemorySource::new(input, setting.most, setting.failing_pulls.to_vec(alloc)?);
-    let sink = MemorySink::new(alloc, AT_ONCE, setting.failing_pushes.to_vec(alloc)?);
+    let sink = MemorySink::new(alloc, setting.takes, setting.failing_pushes.to_vec(alloc)?);
     let clock = ListClock::new(setting.seconds);
     Ok(play(alloc, &words, source, sink, clock))
 }

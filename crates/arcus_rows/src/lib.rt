@@ -19,4 +19,6 @@ mod harness;
 #[cfg(test)]
 mod long_session;
 #[cfg(test)]
+mod pushes;
+#[cfg(test)]
 mod rows;

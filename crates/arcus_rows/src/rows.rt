@@ -131,7 +131,9 @@ fn faults_end_the_session(rt: HostRuntime) -> Result<(), Fail> {
     };
     let input = "set a 5 0 3|abc|get a|";
     expect(&rt, rt.alloc(), first_push, input, "", Status::WriteFault)?;
+    // The first pull brings the line with its block, whose text is sent before the second.
     let second_push = Setting {
+        most: 18,
         failing_pushes: &[1],
         ..DEFAULT
     };
