@@ -10,11 +10,11 @@ use std::alloc::{AllocError, Global};
 use std::process::Abort;
 
 /// As many bytes as a pull or a push asks for.
-pub const AT_ONCE: usize = 1 << 20;
+pub(crate) const AT_ONCE: usize = 1 << 20;
 
 /// What a session is run with, beside its input.
 #[derive(Clone, Copy)]
-pub struct Setting<'a> {
+pub(crate) struct Setting<'a> {
     pub words: &'a [&'a str],
     /// The clock's seconds, 1 to 64, one for each request; the last one stays.
     pub seconds: &'a [u32],
@@ -29,7 +29,7 @@ pub struct Setting<'a> {
 }
 
 /// The cache that the program has where no limit is named, second 0, and no fault.
-pub const DEFAULT: Setting<'static> = Setting {
+pub(crate) const DEFAULT: Setting<'static> = Setting {
     words: &["session"],
     seconds: &[0],
     most: AT_ONCE,
@@ -39,16 +39,16 @@ pub const DEFAULT: Setting<'static> = Setting {
 };
 
 /// A cache of 1 MiB.
-pub const ONE_MIB: Setting<'static> = Setting {
+pub(crate) const ONE_MIB: Setting<'static> = Setting {
     words: &["session", "--limit", "1"],
     ..DEFAULT
 };
 
 /// In pieces of one byte.
-pub const BYTE_BY_BYTE: Setting<'static> = Setting { most: 1, ..DEFAULT };
+pub(crate) const BYTE_BY_BYTE: Setting<'static> = Setting { most: 1, ..DEFAULT };
 
 /// Puts the bytes for which a row's text stands behind the others.
-pub fn add_text(bytes: &mut Vec<u8>, text: &str) -> Result<(), AllocError> {
+pub(crate) fn add_text(bytes: &mut Vec<u8>, text: &str) -> Result<(), AllocError> {
     // How often the next byte within braces is repeated.
     let mut times = None;
     for &byte in text.as_bytes() {
@@ -80,14 +80,14 @@ pub fn add_text(bytes: &mut Vec<u8>, text: &str) -> Result<(), AllocError> {
 }
 
 /// The bytes for which a row's text stands.
-pub fn bytes_of(alloc: Global, text: &str) -> Result<Vec<u8>, AllocError> {
+pub(crate) fn bytes_of(alloc: Global, text: &str) -> Result<Vec<u8>, AllocError> {
     let mut bytes = Vec::new(alloc);
     add_text(&mut bytes, text)?;
     Ok(bytes)
 }
 
 /// The program's words.
-pub fn words_of(alloc: Global, words: &[&str]) -> Result<Vec<String>, AllocError> {
+pub(crate) fn words_of(alloc: Global, words: &[&str]) -> Result<Vec<String>, AllocError> {
     let mut owned = Vec::new(alloc);
     for word in words {
         owned.push(String::from_str(alloc, word)?)?;
@@ -96,7 +96,7 @@ pub fn words_of(alloc: Global, words: &[&str]) -> Result<Vec<String>, AllocError
 }
 
 /// Runs the program on this input.
-pub fn run_on(
+pub(crate) fn run_on(
     rt: &impl Abort,
     alloc: Global,
     setting: Setting<'_>,
@@ -112,7 +112,7 @@ pub fn run_on(
 }
 
 /// Runs the program on the input for which this text stands, and asks for that output and that status.
-pub fn expect(
+pub(crate) fn expect(
     rt: &impl Abort,
     alloc: Global,
     setting: Setting<'_>,
@@ -128,7 +128,7 @@ pub fn expect(
 }
 
 /// Asks that the row with this input had the wanted output.
-pub fn expect_bytes(rt: &impl Abort, input: &str, output: &[u8], wanted: &[u8]) {
+pub(crate) fn expect_bytes(rt: &impl Abort, input: &str, output: &[u8], wanted: &[u8]) {
     if output != wanted {
         let front = &output[..output.len().min(500)];
         let text = str::from_utf8(front).unwrap_or("no text");

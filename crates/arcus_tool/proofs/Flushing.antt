@@ -1,14 +1,13 @@
 -- What a flush leaves of a session whose texts waited.
-use Rattle.std.proofs.Common.{◌≡◌, ℕ, List, [], ◌++◌, Option, Result, Ok, Err, refl, sym, ap, ◌∙◌, subst}
+use Rattle.std.proofs.Common.{◌≡◌, ℕ, List, [], ◌++◌, Option, Result, Ok, Err, sym, ap, ◌∙◌, subst}
 use Rattle.std.proofs.lemmas.List.{append-nil}
 use Rattle.std.specs.Result.{result_and}
 use Rattle.arc_core.specs.Outside.{then_sent}
 use Rattle.arc_core.specs.CacheState.{CacheState}
 use Rattle.arc_core.specs.Framing.{Whole}
 use Rattle.frame_reader.specs.Progress.{Progress}
-use Rattle.arcus_tool.specs.Output.{HasCause}
 use Rattle.arcus_tool.specs.Waiting.{Grew, Flushes}
-use Rattle.arcus_tool.specs.Handling.{Stand, stand, Went, BrokeOff, GoesOn, OnlyLastFinal, StopsAt, Stops, TakesAll}
+use Rattle.arcus_tool.specs.Handling.{Stand, stand, Went, BrokeOff, GoesOn, OnlyLastFinal, Stops, TakesAll}
 use Rattle.arcus_tool.specs.declared.stops.Stop.{Stop}
 use Rattle.arcus_tool.specs.declared.stops.Stop.TheVariants as stop
 use Rattle.arcus_tool.proofs.Sending.{cause_since, sent_nothing}

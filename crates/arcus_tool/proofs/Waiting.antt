@@ -5,7 +5,7 @@ use Rattle.std.proofs.Math.Seq.{drop-append_seam}
 use Rattle.arc_core.specs.Outside.{then_sent}
 use Rattle.arcus_tool.specs.Output.{IsSentInPart}
 use Rattle.arcus_tool.specs.Waiting.{since, Grew}
-use Rattle.arcus_tool.proofs.Sending.{sent_on, sent_nothing}
+use Rattle.arcus_tool.proofs.Sending.{sent_on}
 
 -- what was sent last was sent since
 pub grew_by : (sent sent' : Option (List ℕ)) (piece : List ℕ) → sent' ≡ then_sent sent piece → Grew sent sent'
@@ -14,10 +14,6 @@ grew_by (Some s) None piece is = absurd cc
 grew_by (Some s) (Some t) piece is =
     let e : t ≡ s ++ piece = cc in
     ap Some (e ∙ ap (λ more. s ++ more) (sym (drop-append_seam s piece) ∙ ap (drop (length s)) (sym e)))
-
--- nothing was sent since
-pub grew_not : (sent sent' : Option (List ℕ)) → sent' ≡ sent → Grew sent sent'
-grew_not sent sent' same = grew_by sent sent' [] (same ∙ sym (sent_nothing sent))
 
 -- what was sent since the one moment was sent since an earlier one
 pub grew_on : (sent sent' sent'' : Option (List ℕ)) → Grew sent sent' → Grew sent' sent'' → Grew sent sent''

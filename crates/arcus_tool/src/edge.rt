@@ -1,7 +1,7 @@
 //! The real outside: standard input, standard output and the wall clock.
 //!
 //! These count their faults, and tell nothing of what they hold: that the bytes really come and go is not proved.
-ghost use Rattle.std.specs.Prelude.{None};
+ghost use Rattle.std.specs.Prelude.{◌≡◌, None};
 
 use arc_core::{Clock, Pull, Push, Sink, Source};
 use std::io::{ErrorKind, Read, Write};
@@ -15,8 +15,10 @@ pub struct StdSource<R> {
 }
 
 impl<R: Read> StdSource<R> {
-    /// A source that has not failed yet. (No clause: it tells nothing of the reader.)
-    pub fn new(reader: R) -> StdSource<R> {
+    /// A source that has not failed yet. It tells nothing of the reader.
+    pub fn new(reader: R) -> StdSource<R>
+        ensures { result.faults ≡ 0 }
+    {
         StdSource { reader, faults: 0 }
     }
 }
@@ -49,8 +51,10 @@ pub struct StdSink<W> {
 }
 
 impl<W: Write> StdSink<W> {
-    /// A sink that has not failed yet. (No clause: it tells nothing of the writer.)
-    pub fn new(writer: W) -> StdSink<W> {
+    /// A sink that has not failed yet. It tells nothing of the writer.
+    pub fn new(writer: W) -> StdSink<W>
+        ensures { result.faults ≡ 0 }
+    {
         StdSink { writer, faults: 0 }
     }
 }
@@ -86,8 +90,10 @@ pub struct WallClock<R> {
 }
 
 impl<R: SystemClock + Copy> WallClock<R> {
-    /// A clock that was not read yet. (No clause: it tells nothing of the seconds to come.)
-    pub fn new(system: R) -> WallClock<R> {
+    /// A clock that was not read yet. It tells nothing of the seconds to come.
+    pub fn new(system: R) -> WallClock<R>
+        ensures { result.last ≡ 0 }
+    {
         WallClock { system, last: 0 }
     }
 }
