@@ -22,14 +22,7 @@ fn texts_go_out_together(rt: HostRuntime) -> Result<(), Fail> {
     // The line's text comes behind a later pull.
     let input = "version|{65536x}";
     let front = "VERSION arcus-profile-1|";
-    expect(
-        &rt,
-        rt.alloc(),
-        one_push,
-        input,
-        front,
-        Status::WriteFault,
-    )?;
+    expect(&rt, rt.alloc(), one_push, input, front, Status::WriteFault)?;
     Ok(())
 }
 
@@ -54,14 +47,7 @@ fn a_front_was_sent(rt: HostRuntime) -> Result<(), Fail> {
         failing_pushes: &[1],
         ..DEFAULT
     };
-    expect(
-        &rt,
-        rt.alloc(),
-        ten,
-        input,
-        "STORED|VA",
-        Status::WriteFault,
-    )?;
+    expect(&rt, rt.alloc(), ten, input, "STORED|VA", Status::WriteFault)?;
     Ok(())
 }
 
@@ -81,12 +67,7 @@ fn texts_wait_up_to_16384_bytes(rt: HostRuntime) -> Result<(), Fail> {
         ..DEFAULT
     };
     let played = run_on(&rt, rt.alloc(), one_push, input)?;
-    expect_bytes(
-        &rt,
-        "1,000 times version",
-        played.sink.bytes(),
-        &output,
-    );
+    expect_bytes(&rt, "1,000 times version", played.sink.bytes(), &output);
     assert_eq!(rt; played.status, Status::WriteFault);
     Ok(())
 }
