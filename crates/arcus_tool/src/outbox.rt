@@ -1,6 +1,7 @@
 //! Texts that wait to be sent, so that those of many units go out in one push.
-ghost use Rattle.std.specs.Prelude.{◌≡◌, ◌+◌, ◌<◌, ◌≤◌, [], ◌++◌, length, drop, if◌then◌else◌, IfOk, vec_len, vec_capacity};
+ghost use Rattle.std.specs.Prelude.{◌≡◌, ◌+◌, ◌<◌, ◌≤◌, [], ◌++◌, length, drop, nat_le, if◌then◌else◌, IfOk, vec_len, vec_capacity};
 ghost use Rattle.arc_core.specs.Outside.{Pushed, then_sent};
+ghost use Rattle.arc_core.specs.declared.outside.Push.TheVariants.{Took};
 ghost use Rattle.arcus_tool.specs.Waiting.{Grew, Flushes};
 
 use crate::stops::Stop;
@@ -11,24 +12,21 @@ use std::marker::Model;
 /// The most bytes that wait.
 const WAITING_BYTES: usize = 16_384;
 
-/// Bytes that wait to be sent. Contracts see the list of them.
+/// Bytes that wait to be sent, 16,384 at most. Contracts see the list of them.
 #[derive(Drop)]
 pub(crate) struct Outbox {
     // Never more than its memory, which is taken once.
     bytes: Vec<u8>,
-    // So many at the front do not wait any more.
-    sent: usize,
 }
 
 impl Model for Outbox {
-    ghost use Rattle.std.specs.Prelude.{List, ℕ, ◌≤◌, drop, vec_len, vec_capacity};
+    ghost use Rattle.std.specs.Prelude.{List, ℕ, ◌≤◌, vec_len, vec_capacity};
 
     ghost Value = { List ℕ };
 
-    ghost view = { λ outbox. drop outbox.sent outbox.bytes.items };
+    ghost view = { λ outbox. outbox.bytes.items };
 
-    ghost invariant = { λ outbox. (outbox.sent ≤ vec_len outbox.bytes) × (vec_len outbox.bytes ≤ 16384)
-        × (16384 ≤ vec_capacity outbox.bytes) };
+    ghost invariant = { λ outbox. (vec_len outbox.bytes ≤ 16384) × (16384 ≤ vec_capacity outbox.bytes) };
 }
 
 impl Outbox {
@@ -38,19 +36,20 @@ impl Outbox {
         ensures { IfOk result (λ outbox. outbox ≡ []) }
     {
         let bytes = Vec::with_capacity(alloc, WAITING_BYTES)?;
-        Ok(Outbox { bytes, sent: 0 })
+        Ok(Outbox { bytes })
     }
 
     // The bytes that wait.
     fn bytes(&self) -> &[u8]
         ensures { result.now ≡ self.now }
     {
-        &self.bytes[self.sent..]
+        &self.bytes
     }
 
     // Puts a piece behind all that waits, where it has room. Tells whether it has.
     fn add(&mut self, piece: &[u8]) -> bool
-        ensures { self.new ≡ (if result then self.old ++ piece.now else self.old) }
+        ensures room { result ≡ nat_le (length self.old + length piece.now) 16384 }
+        ensures waits { self.new ≡ (if result then self.old ++ piece.now else self.old) }
     {
         if piece.len() > WAITING_BYTES - self.bytes.len() {
             return false;
@@ -59,15 +58,17 @@ impl Outbox {
         true
     }
 
-    // So many bytes at the front were sent.
+    // So many bytes at the front were sent. (All, but where a sink takes a part.)
     fn took(&mut self, count: usize)
         requires { count ≤ length self.old }
         ensures { self.new ≡ drop count self.old }
     {
-        self.sent += count;
-        if self.sent == self.bytes.len() {
+        if count == self.bytes.len() {
             self.bytes.clear();
-            self.sent = 0;
+        } else {
+            let left = self.bytes.len() - count;
+            self.bytes.copy_within(count.., 0);
+            self.bytes.truncate(left);
         }
     }
 }
@@ -103,6 +104,9 @@ pub(crate) fn post<K: Sink>(outbox: &mut Outbox, sink: &mut K, piece: &[u8]) -> 
     ensures pushed { Pushed (then_sent (K.sent sink.old) outbox.old) (then_sent (K.sent sink.new) outbox.new)
         (K.write_faults sink.old) (K.write_faults sink.new) (K.refusals sink.old) (K.refusals sink.new) piece.now result }
     ensures grew { Grew (K.sent sink.old) (K.sent sink.new) }
+    // Where it has room the sink is left alone.
+    ensures waits { length outbox.old + length piece.now ≤ 16384
+        → (result ≡ Took (length piece.now)) × (sink.new ≡ sink.old) × (outbox.new ≡ outbox.old ++ piece.now) }
 {
     if outbox.add(piece) {
         return Push::Took(piece.len());
