@@ -3,7 +3,7 @@ use Rattle.std.specs.Prelude.{◌≡◌, ℕ, ◌^◌, ◌<◌, ◌≤◌, List,
 use Rattle.std.specs.Map.{lookup}
 use Rattle.std.specs.FinMap.{get}
 use Rattle.arc_core.specs.Item.{Item, IsItem, size_of, expiry_of, is_sticky}
-use Rattle.arc_core.specs.Places.{Places, empty_places, found, total_of, HasEachKeyOnce}
+use Rattle.arc_core.specs.Places.{Places, empty_places, found, total_of, sticky_total_of, HasEachKeyOnce}
 
 -- The latest second that an executed request came with, the cas counter, and the items in their places.
 pub record CacheState : Type 0 where
@@ -12,12 +12,16 @@ pub record CacheState : Type 0 where
   pub places : Places Item
 
 -- nothing is held, and nothing was stored
-abbrev pub opening_state : ℕ → CacheState
-opening_state limit = record { latest = 0; counter = 0; places = empty_places limit }
+abbrev pub opening_state : (limit share : ℕ) → CacheState
+opening_state limit share = record { latest = 0; counter = 0; places = empty_places limit share }
 
 -- the accounted bytes: the stated sizes of all held items
 abbrev pub accounted : CacheState → ℕ
 accounted state = total_of size_of state.places
+
+-- the accounted bytes of the sticky items
+abbrev pub accounted_sticky : CacheState → ℕ
+accounted_sticky state = sticky_total_of size_of state.places
 
 -- The rules that items in their places keep.
 pub record ArePlaced (places : Places Item) : Type 0 where
@@ -33,5 +37,6 @@ pub record ArePlaced (places : Places Item) : Type 0 where
 pub record IsState (state : CacheState) : Type 0 where
   pub placed : ArePlaced state.places
   pub second : state.latest < 2 ^ 32
-  -- the accounted bytes are within the limit
+  -- the accounted bytes are within the limit, and those of the sticky items within their share
   pub within : accounted state ≤ state.places.limit
+  pub share : accounted_sticky state ≤ state.places.share

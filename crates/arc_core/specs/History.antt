@@ -1,13 +1,13 @@
 -- Histories of executed requests, and which of them are legal.
-use Rattle.std.specs.Prelude.{◌≡◌, ◌≢◌, ◌⊎◌, ℕ, List, [], ◌∷◌, Some}
+use Rattle.std.specs.Prelude.{◌≡◌, ◌≢◌, ◌⊎◌, ℕ, List, [], ◌∷◌, Some, None}
 use Rattle.arc_core.specs.declared.replies.Reply.{Reply}
 use Rattle.arc_core.specs.declared.replies.Reply.TheVariants as reply
 use Rattle.arc_core.specs.declared.replies.Word.TheVariants as word
 use Rattle.arc_core.specs.PlainRequest.{PlainAct, PlainRequest, store, get, count, delete, touch, flush_all, version}
 use Rattle.arc_core.specs.CacheState.{CacheState}
-use Rattle.arc_core.specs.Item.{Item, expiry_of, expiry_at, is_sticky}
+use Rattle.arc_core.specs.Item.{Item, expiry_of, expiry_at, with_expiry, is_sticky}
 use Rattle.arc_core.specs.Places.{found}
-use Rattle.arc_core.specs.Step.{named_keys, started, step}
+use Rattle.arc_core.specs.Step.{named_keys, started, step, room_for}
 
 -- One executed request: by which seat and session, at which second, and with which reply.
 pub record Entry : Type 0 where
@@ -18,7 +18,7 @@ pub record Entry : Type 0 where
   pub reply : Reply
 
 -- The request may want memory, by the state at the start of its step: all may but those that are known to need none. A
--- `touch` needs some only where its item gets to be sticky or is no longer so.
+-- `touch` needs some only where its item gets to be sticky or is no longer so, and there is room for it then.
 abbrev pub MayWantMemory : CacheState → PlainAct → Type 0
 MayWantMemory start (store verb key flags exptime value) = Unit {0}
 MayWantMemory start (get keys unique) = Unit {0}
@@ -26,6 +26,7 @@ MayWantMemory start (count up key delta initial) = Unit {0}
 MayWantMemory start (delete key) = ⊥
 MayWantMemory start (touch key exptime) =
     (item : Item) × (found key start.places ≡ Some item) × (is_sticky (expiry_of item) ≢ is_sticky (expiry_at start.latest exptime))
+    × (room_for start key (with_expiry (expiry_at start.latest exptime) item) ≢ None)
 MayWantMemory start flush_all = ⊥
 MayWantMemory start version = ⊥
 

@@ -6,9 +6,9 @@ use Rattle.arc_core.specs.declared.outside.Pull.TheVariants as pull
 use Rattle.arc_core.specs.declared.outside.Push.{Push}
 use Rattle.arc_core.specs.declared.outside.Push.TheVariants as push
 
--- A count rose in a call by one at least, or stands at the last value that a counter has.
+-- A count rose in a call by one at least, or stands at the last value that a counter has. It did not fall.
 abbrev pub Rose : ℕ → ℕ → Type 0
-Rose before now = min (before + 1) (2 ^ 64 - 1) ≤ now
+Rose before now = (before ≤ now) × (min (before + 1) (2 ^ 64 - 1) ≤ now)
 
 -- These bytes come next, and then what is left after them, where it is told.
 abbrev pub first_then : List ℕ → Option (List ℕ) → Option (List ℕ)
@@ -36,11 +36,23 @@ pub record FailedToPull (left left' : Option (List ℕ)) (faults faults' : ℕ) 
   pub same_left : left' ≡ left
   pub rose : Rose faults faults'
 
--- What a pull leaves, by its answer.
+-- What a pull of a source leaves, by its answer. A source never has to be asked again.
 abbrev pub Pulled : (left left' : Option (List ℕ)) (faults faults' : ℕ) (buffer : List ℕ) → Pull → Type 0
 Pulled left left' faults faults' buffer (pull.Got n) = CameNext left left' faults faults' buffer n
 Pulled left left' faults faults' buffer pull.End = CameToEnd left left' faults faults'
 Pulled left left' faults faults' buffer pull.Failed = FailedToPull left left' faults faults'
+Pulled left left' faults faults' buffer pull.Again = ⊥
+
+-- Nothing came, and it was counted that the link has to be asked again.
+pub record AgainToPull (left left' : Option (List ℕ)) (faults faults' agains agains' : ℕ) : Type 0 where
+  pub same_left : left' ≡ left
+  pub same_faults : faults' ≡ faults
+  pub rose : Rose agains agains'
+
+-- What a pull of a link leaves, by its answer: as of a source, but that it may have to be asked again.
+abbrev pub LinkPulled : (left left' : Option (List ℕ)) (faults faults' agains agains' : ℕ) (buffer : List ℕ) → Pull → Type 0
+LinkPulled left left' faults faults' agains agains' buffer pull.Again = AgainToPull left left' faults faults' agains agains'
+LinkPulled left left' faults faults' agains agains' buffer answer = Pulled left left' faults faults' buffer answer × (agains' ≡ agains)
 
 -- The first so many bytes of the piece were sent.
 pub record WasTaken (sent sent' : Option (List ℕ)) (faults faults' refusals refusals' : ℕ) (piece : List ℕ) (n : ℕ) : Type 0 where
@@ -62,11 +74,26 @@ pub record RefusedToPush (sent sent' : Option (List ℕ)) (faults faults' refusa
   pub same_faults : faults' ≡ faults
   pub rose : Rose refusals refusals'
 
--- What a push leaves, by its answer.
+-- What a push into a sink leaves, by its answer. A sink never has to be asked again.
 abbrev pub Pushed : (sent sent' : Option (List ℕ)) (faults faults' refusals refusals' : ℕ) (piece : List ℕ) → Push → Type 0
 Pushed sent sent' faults faults' refusals refusals' piece (push.Took n) = WasTaken sent sent' faults faults' refusals refusals' piece n
 Pushed sent sent' faults faults' refusals refusals' piece push.Failed = FailedToPush sent sent' faults faults' refusals refusals'
 Pushed sent sent' faults faults' refusals refusals' piece push.NoMemory = RefusedToPush sent sent' faults faults' refusals refusals'
+Pushed sent sent' faults faults' refusals refusals' piece push.Again = ⊥
+
+-- Nothing was sent, and it was counted that the link has to be asked again.
+pub record AgainToPush (sent sent' : Option (List ℕ)) (faults faults' refusals refusals' agains agains' : ℕ) : Type 0 where
+  pub same_sent : sent' ≡ sent
+  pub same_faults : faults' ≡ faults
+  pub same_refusals : refusals' ≡ refusals
+  pub rose : Rose agains agains'
+
+-- What a push into a link leaves, by its answer: as of a sink, but that it may have to be asked again.
+abbrev pub LinkPushed : (sent sent' : Option (List ℕ)) (faults faults' refusals refusals' agains agains' : ℕ) (piece : List ℕ) → Push → Type 0
+LinkPushed sent sent' faults faults' refusals refusals' agains agains' piece push.Again =
+    AgainToPush sent sent' faults faults' refusals refusals' agains agains'
+LinkPushed sent sent' faults faults' refusals refusals' agains agains' piece answer =
+    Pushed sent sent' faults faults' refusals refusals' piece answer × (agains' ≡ agains)
 
 -- A clock that tells its seconds answers the first of those to come, and goes on to the next where there is one.
 abbrev pub Ticks : Option (List ℕ) → ℕ → Option (List ℕ) → Type 0

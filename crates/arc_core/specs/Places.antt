@@ -10,16 +10,18 @@ use Rattle.std.specs.FinMap.{FinMap}
 use Rattle.std.specs.FinMap as finite
 
 -- The shelf: each key with what stands under it, most recently used first. The sticky items, which are never
--- evicted, by their keys. And the limit of all stated sizes, in bytes.
+-- evicted, by their keys. And two limits in bytes: that of all stated sizes, and the share of it that the sizes of the
+-- sticky items may take.
 pub record Places (X : Type 0) : Type 0 where
   pub shelf : List (List ℕ × X)
   pub sticky : FinMap (slice_cmp nat_cmp) X
   pub limit : ℕ
+  pub share : ℕ
 
 module _ {X : Type 0} where
   -- no place is taken
-  abbrev pub empty_places : ℕ → Places X
-  empty_places limit = record { shelf = []; sticky = finite.empty; limit = limit }
+  abbrev pub empty_places : (limit share : ℕ) → Places X
+  empty_places limit share = record { shelf = []; sticky = finite.empty; limit = limit; share = share }
 
   -- what stands under the key: on the shelf, or else among the sticky items
   abbrev pub found : List ℕ → Places X → Option X
@@ -37,9 +39,13 @@ module _ {X : Type 0} where
   abbrev pub weight_of : (List ℕ → X → ℕ) → List (List ℕ × X) → ℕ
   weight_of weigh = sum_by (λ place. weigh place.0 place.1)
 
+  -- the sum of the sizes of the sticky items, computed anew
+  abbrev pub sticky_total_of : (List ℕ → X → ℕ) → Places X → ℕ
+  sticky_total_of weigh places = weight_of weigh (finite.entries places.sticky)
+
   -- the sum of all sizes, computed anew
   abbrev pub total_of : (List ℕ → X → ℕ) → Places X → ℕ
-  total_of weigh places = weight_of weigh places.shelf + weight_of weigh (finite.entries places.sticky)
+  total_of weigh places = weight_of weigh places.shelf + sticky_total_of weigh places
 
   -- no key has two places
   pub record HasEachKeyOnce (places : Places X) : Type 0 where

@@ -151,6 +151,18 @@ plan_of state version = tell (reply.Word word.Version)
 abbrev pub extra_of : CacheState → List ℕ → Item → ℤ
 extra_of state key item = pos (size_of key item) -ℤ pos (option_map_or (size_of key) (found key state.places) 0)
 
+-- the stated size of an item that is never evicted; 0 of any other
+abbrev pub sticky_size : List ℕ → Item → ℕ
+sticky_size key item = if is_sticky (expiry_of item) then size_of key item else 0
+
+-- how many bytes an item adds to those of the sticky items, less those of the item that it replaces
+abbrev pub sticky_extra_of : CacheState → List ℕ → Item → ℤ
+sticky_extra_of state key item = pos (sticky_size key item) -ℤ pos (option_map_or (sticky_size key) (found key state.places) 0)
+
+-- what is evicted for the item under the key, or none where there is no room for it
+abbrev pub room_for : CacheState → List ℕ → Item → Option (List (List ℕ × Item))
+room_for state key item = room size_of state.places key (extra_of state key item) (sticky_extra_of state key item)
+
 -- the places with the item under the key, after so many evictions
 abbrev pub put_behind : ℕ → List ℕ → Item → Places Item → Places Item
 put_behind evictions key item places = placed (is_sticky (expiry_of item)) key item (evicted key evictions places)
@@ -160,9 +172,9 @@ abbrev pub carried_out : CacheState → Plan → Option (CacheState × Reply)
 carried_out state (tell answer) = Some (state, answer)
 carried_out state (put key item counter answer) =
     option_map (λ gone. (record state { counter = counter; places = put_behind (length gone) key item state.places }, answer))
-    (room size_of state.places key (extra_of state key item))
+    (room_for state key item)
 carried_out state (take_away key answer) = Some (record state { places = without key state.places }, answer)
-carried_out state (take_all answer) = Some (record state { places = empty_places state.places.limit }, answer)
+carried_out state (take_all answer) = Some (record state { places = empty_places state.places.limit state.places.share }, answer)
 
 -- THE END OF A STEP
 

@@ -7,17 +7,21 @@ use Rattle.arc_core.specs.declared.replies.Word.TheVariants as word
 use Rattle.arc_core.specs.Item.{Item, key_value}
 use Rattle.arc_core.specs.Places.{empty_places}
 use Rattle.arc_core.specs.CacheState.{CacheState}
-use Rattle.arc_core.specs.Step.{tell, put, take_away, plan_of_store, plan_of_count, plan_of_delete, plan_of_touch, next_unique}
+use Rattle.arc_core.specs.Step.{sticky_extra_of, tell, put, take_away, plan_of_store, plan_of_count, plan_of_delete, plan_of_touch, next_unique}
 use Rattle.arc_core.specs.Words.{number_below}
-use Rattle.arc_core.specs.Room.{shortest_suffix, fits}
+use Rattle.arc_core.specs.Room.{shortest_suffix, fits, share_fits}
 
 -- a state at second 1,000 in which 6 values were stored
 abbrev at : CacheState
-at = record { latest = 1000; counter = 6; places = empty_places 1048576 }
+at = record { latest = 1000; counter = 6; places = empty_places 1048576 1048576 }
 
 -- an item with client flags 5, cas unique 3 and the value `x`
 abbrev held : Item
 held = key_value 5 expiry.Never 3 (codes "x")
+
+-- a state that holds an item under `a`
+abbrev holding : Item → CacheState
+holding item = record at { places = record (empty_places 1048576 1048576) { shelf = (codes "a", item) ∷ [] } }
 
 -- `set` puts a new item, whatever is held
 set_stores : plan_of_store at verb.Set (codes "a") 9 (pos 10) (codes "y") (Some held) ≡ put (codes "a") (key_value 9 (expiry.At 1010) 7 (codes "y")) 7 (reply.Word word.Stored)
@@ -76,3 +80,13 @@ none_goes = refl
 
 all_are_not_enough : shortest_suffix (λ list. fits 12 12 (pos 13) (sum list)) (3 ∷ 4 ∷ 5 ∷ []) ≡ None
 all_are_not_enough = refl
+
+-- the extra bytes of a sticky item that takes the place of another: one of 66 bytes that was sticky, and one that was not
+stays_sticky : sticky_extra_of (holding (key_value 0 expiry.Sticky 1 (codes "x"))) (codes "a") (key_value 0 expiry.Sticky 2 (codes "xyz")) ≡ pos 2
+stays_sticky = refl
+
+gets_sticky : sticky_extra_of (holding (key_value 0 expiry.Never 1 (codes "x"))) (codes "a") (key_value 0 expiry.Sticky 2 (codes "xyz")) ≡ pos 68
+gets_sticky = refl
+
+is_no_longer_sticky : sticky_extra_of (holding (key_value 0 expiry.Sticky 1 (codes "x"))) (codes "a") (key_value 0 expiry.Never 2 (codes "xyz")) ≡ negsuc 65
+is_no_longer_sticky = refl

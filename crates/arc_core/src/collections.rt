@@ -1,5 +1,28 @@
 //! Small types that requests on collections, their plans and their attributes share.
 
+/// What an item is. (The types of ARCUS.)
+#[derive(Clone, Copy, Debug, PartialEq, Eq)]
+pub enum Kind {
+    /// A value with client flags.
+    Kv,
+    List,
+    Set,
+    Map,
+    /// A B+tree.
+    Tree,
+}
+
+/// What a read does with the elements that it answers.
+#[derive(Clone, Copy, Debug, PartialEq, Eq)]
+pub enum Take {
+    /// They stay.
+    Keep,
+    /// They go.
+    Delete,
+    /// They go, and so does the collection where it is empty then.
+    Drop,
+}
+
 /// What an insert into a full collection does.
 ///
 /// Lists have `Error`, `HeadTrim` and `TailTrim`; sets and maps `Error`; trees all but the trims of head and tail.

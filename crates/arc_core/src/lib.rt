@@ -2,9 +2,11 @@
 //! the machine in `specs/`.
 #![tactic(auto)]
 
+mod attributes;
 mod bkeys;
 mod clocks;
 mod collections;
+mod ends;
 mod faults;
 mod filters;
 mod items;
@@ -15,14 +17,18 @@ mod numbers;
 mod outside;
 mod replies;
 mod requests;
+mod rows;
 mod seqs;
 mod short_bytes;
+mod trees;
 mod values;
 mod word_lists;
 
+pub use attributes::{AttrName, AttrNumber, AttrValue, AttrView, Attrs, CreateArgs};
 pub use bkeys::{Bkey, BkeyRange};
 pub use clocks::ListClock;
-pub use collections::{Action, IndexRange, Side};
+pub use collections::{Action, IndexRange, Kind, Side, Take};
+pub use ends::End;
 pub use faults::{Failed, NoMemory};
 pub use filters::{BitOp, CompOp, Eflag, EflagChange, Filter, FlagIter, FlagWords};
 pub use items::Expiry;
@@ -33,7 +39,9 @@ pub use numbers::read_number;
 pub use outside::{Clock, Heads, Link, Need, Pull, Push, Sink, Source};
 pub use replies::{Reply, ValueRow, Word};
 pub use requests::{Act, Answer, Request, StoreVerb};
+pub use rows::{KeyRead, KeyRows, MergedRow, MissedKey, Row, RowName, Tail, TrimmedKey};
 pub use seqs::Seq;
 pub use short_bytes::{ShortBytes, hex_digits};
+pub use trees::{Edges, Elem, TreeRead};
 pub use values::Value;
 pub use word_lists::{KeyIter, KeyWords, WordIter, first_word};

@@ -1,6 +1,6 @@
 //! The machine as its users see it.
 ghost use Rattle.std.specs.Prelude.{◌^◌, ◌<◌, length};
-ghost use Rattle.arc_core.specs.CacheState.{CacheState};
+ghost use Rattle.arc_core.specs.CacheState.{CacheState, IsState};
 ghost use Rattle.arc_core.specs.PlainRequest.{plain};
 ghost use Rattle.arc_core.specs.Grammar.{CanBeSpelled};
 ghost use Rattle.arc_core.specs.History.{Executes};
@@ -21,4 +21,9 @@ pub trait Executor {
         requires { CanBeSpelled (plain request.now) }
         ensures executed { Executes (state self.old) now (plain request.now) result (state self.new) }
         ensures text { length (reply_text result) < 2 ^ 64 };
+
+    /// Does nothing, and tells contracts that the state keeps its rules: accounted bytes are within the limit, those of
+    /// the sticky items within their share, and each item is where it belongs.
+    fn keeps_the_rules(&self)
+        ensures { IsState (state self.now) };
 }

@@ -1,12 +1,12 @@
 //! The traits of the outside: where bytes come from and go to, and what second it is.
 //!
-//! Each object counts its faults, and its refusals for want of memory. A count never falls, and a call raises the
-//! count of a fault only where it answers that fault. An object tells what it has left or was sent, as one in memory
+//! Each object counts its faults, and its refusals for want of memory; a link also how often it had to be asked again. A
+//! count never falls, and a call raises it only where it answers that. An object tells what it has left or was sent, as one in memory
 //! does, or it tells nothing, as a socket; whether it tells is the same before and after each call. The clauses on
 //! content hold where it tells.
 ghost use Rattle.std.specs.Prelude.{◌≡◌, ◌<◌, ◌≤◌, List, ℕ, length, Option};
 ghost use Rattle.arc_core.specs.declared.outside.Need.{Need};
-ghost use Rattle.arc_core.specs.Outside.{Pulled, Pushed, Ticks};
+ghost use Rattle.arc_core.specs.Outside.{Pulled, Pushed, LinkPulled, LinkPushed, Ticks};
 
 /// The answer of a pull.
 #[derive(Clone, Copy, Debug, PartialEq, Eq)]
@@ -17,6 +17,8 @@ pub enum Pull {
     End,
     /// The object failed, and counted it. What is left is as before.
     Failed,
+    /// Nothing can be had without waiting, and the object counted that. What is left is as before. Links alone answer it.
+    Again,
 }
 
 /// The answer of a push.
@@ -28,6 +30,8 @@ pub enum Push {
     Failed,
     /// Memory was refused to the object, and it counted the refusal. Nothing was sent.
     NoMemory,
+    /// Nothing can be sent without waiting, and the object counted that. Nothing was sent. Links alone answer it.
+    Again,
 }
 
 /// Which block a line of the protocol asks for.
@@ -49,7 +53,7 @@ pub trait Heads {
         ensures { result ≡ needs line.now };
 }
 
-/// Where bytes come from.
+/// Where bytes come from. A pull may wait for them, so it never answers `Again`.
 pub trait Source {
     /// The bytes that are still to come, where the object tells them.
     ghost left: { Self → Option (List ℕ) };
@@ -63,7 +67,7 @@ pub trait Source {
         ensures { Pulled (left self.old) (left self.new) (read_faults self.old) (read_faults self.new) buf.new result };
 }
 
-/// Where bytes go to.
+/// Where bytes go to. A push may wait, so it never answers `Again`.
 pub trait Sink {
     /// The bytes that were sent, where the object tells them.
     ghost sent: { Self → Option (List ℕ) };
@@ -81,7 +85,7 @@ pub trait Sink {
             (refusals self.old) (refusals self.new) piece.now result };
 }
 
-/// A connection: bytes come from it and go to it.
+/// A connection: bytes come from it and go to it. It never waits, and answers `Again` where it would have to.
 pub trait Link {
     /// The bytes that are still to come, where the object tells them.
     ghost left: { Self → Option (List ℕ) };
@@ -98,10 +102,14 @@ pub trait Link {
     /// How often a push was refused for want of memory.
     ghost refusals: { Self → ℕ };
 
+    /// How often a pull or a push was answered `Again`.
+    ghost agains: { Self → ℕ };
+
     /// Fills the front of the buffer with the next bytes that are left. The buffer may not be empty.
     fn pull(&mut self, buf: &mut [u8]) -> Pull
         requires { 0 < length buf.old }
-        ensures pulled { Pulled (left self.old) (left self.new) (read_faults self.old) (read_faults self.new) buf.new result }
+        ensures pulled { LinkPulled (left self.old) (left self.new) (read_faults self.old) (read_faults self.new)
+            (agains self.old) (agains self.new) buf.new result }
         // A pull sends nothing.
         ensures sent { sent self.new ≡ sent self.old }
         ensures write_faults { write_faults self.new ≡ write_faults self.old }
@@ -110,8 +118,8 @@ pub trait Link {
     /// Sends bytes from the front of the piece, which may not be empty.
     fn push(&mut self, piece: &[u8]) -> Push
         requires { 0 < length piece.now }
-        ensures pushed { Pushed (sent self.old) (sent self.new) (write_faults self.old) (write_faults self.new)
-            (refusals self.old) (refusals self.new) piece.now result }
+        ensures pushed { LinkPushed (sent self.old) (sent self.new) (write_faults self.old) (write_faults self.new)
+            (refusals self.old) (refusals self.new) (agains self.old) (agains self.new) piece.now result }
         // A push takes nothing.
         ensures left { left self.new ≡ left self.old }
         ensures read_faults { read_faults self.new ≡ read_faults self.old };
