@@ -36,6 +36,16 @@ pub record Outgoing : Type 0 where
 abbrev pub outgoing : Option (List ℕ) → ℕ → ℕ → Outgoing
 outgoing sent faults refusals = record { sent = sent; faults = faults; refusals = refusals }
 
+-- A snapshot of a link: both sides, and how often it had to be asked again.
+pub record Linked : Type 0 where
+  pub incoming : Incoming
+  pub outgoing : Outgoing
+  pub agains : ℕ
+
+abbrev pub linked : (left : Option (List ℕ)) (read_faults : ℕ) (sent : Option (List ℕ)) (write_faults refusals agains : ℕ) → Linked
+linked left read_faults sent write_faults refusals agains =
+    record { incoming = incoming left read_faults; outgoing = outgoing sent write_faults refusals; agains = agains }
+
 -- So many bytes came, the next of those that were left. They stand at the front of the buffer.
 pub record CameNext (before after : Incoming) (buffer : List ℕ) (n : ℕ) : Type 0 where
   pub some : 0 < n

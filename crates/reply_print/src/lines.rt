@@ -23,7 +23,7 @@ pub(crate) fn line_of(word: Word) -> &'static [u8]
         Word::Deleted => b"DELETED\r\n",
         Word::Touched => b"TOUCHED\r\n",
         Word::Ok => b"OK\r\n",
-        Word::Version => b"VERSION arcus-profile-1\r\n",
+        Word::Version => b"VERSION arcus-profile-2\r\n",
         Word::NotNumeric => b"CLIENT_ERROR cannot increment or decrement non-numeric value\r\n",
         Word::TooLarge => b"CLIENT_ERROR too large value\r\n",
         Word::OutOfMemory => b"SERVER_ERROR out of memory\r\n",

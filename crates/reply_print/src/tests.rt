@@ -119,7 +119,7 @@ const WORDS: [(Word, &[u8]); 16] = [
     (Word::Deleted, b"DELETED\r\n"),
     (Word::Touched, b"TOUCHED\r\n"),
     (Word::Ok, b"OK\r\n"),
-    (Word::Version, b"VERSION arcus-profile-1\r\n"),
+    (Word::Version, b"VERSION arcus-profile-2\r\n"),
     (
         Word::NotNumeric,
         b"CLIENT_ERROR cannot increment or decrement non-numeric value\r\n",
