@@ -34,9 +34,9 @@ impl Unsent {
 pub(crate) fn send<L: Link>(piece: &[u8], at: u64, link: &mut L) -> Result<u64, Unsent>
     ensures { (start : Linked) (from : ℕ) (text rest : List ℕ)
         → Reached start (linked (L.left link.old) (L.read_faults link.old) (L.sent link.old) (L.write_faults link.old)
-            (L.refusals link.old) (L.agains link.old)) from at text (piece.now ++ rest)
+        (L.refusals link.old) (L.agains link.old)) from at text (piece.now ++ rest)
         → Sends start (linked (L.left link.new) (L.read_faults link.new) (L.sent link.new) (L.write_faults link.new)
-            (L.refusals link.new) (L.agains link.new)) from text rest result }
+        (L.refusals link.new) (L.agains link.new)) from text rest result }
 {
     let mut unsent = piece;
     let mut at = at;

@@ -8,18 +8,9 @@ ghost use Rattle.reply_print.specs.Reaching.{PutsOut};
 
 use crate::Wrote;
 use crate::gatherer::Gatherer;
-use crate::lines::{line_of, number_line, tail_of};
+use crate::lines::{END, LINE_END, ROW_START, line_of, number_line, tail_of};
 use crate::sending::{Unsent, send};
 use arc_core::{Link, Reply, ValueRow, Word};
-
-/// What begins the line of a found item.
-const ROW_START: &[u8] = b"VALUE ";
-
-/// What ends a line.
-const LINE_END: &[u8] = b"\r\n";
-
-/// The line behind the found items.
-const END: &[u8] = b"END\r\n";
 
 /// How many bytes the text of the reply has. The text has fewer than 2^64 bytes.
 pub fn reply_len(reply: &Reply) -> u64
@@ -130,9 +121,9 @@ fn put_answer<L: Link>(
 ) -> Result<(), Unsent>
     ensures puts { PutsOut
         (linked (L.left link.old) (L.read_faults link.old) (L.sent link.old) (L.write_faults link.old)
-            (L.refusals link.old) (L.agains link.old))
+        (L.refusals link.old) (L.agains link.old))
         (linked (L.left link.new) (L.read_faults link.new) (L.sent link.new) (L.write_faults link.new)
-            (L.refusals link.new) (L.agains link.new))
+        (L.refusals link.new) (L.agains link.new))
         gatherer.old gatherer.new (flat_map row_text rows.now ++ codes "END" ++ line_end) result }
     ensures empty { OnOk result (gatherer.new.waiting ≡ []) }
 {
@@ -145,9 +136,9 @@ fn put_answer<L: Link>(
 fn put_rows<L: Link>(gatherer: &mut Gatherer, rows: &[ValueRow], link: &mut L) -> Result<(), Unsent>
     ensures { PutsOut
         (linked (L.left link.old) (L.read_faults link.old) (L.sent link.old) (L.write_faults link.old)
-            (L.refusals link.old) (L.agains link.old))
+        (L.refusals link.old) (L.agains link.old))
         (linked (L.left link.new) (L.read_faults link.new) (L.sent link.new) (L.write_faults link.new)
-            (L.refusals link.new) (L.agains link.new))
+        (L.refusals link.new) (L.agains link.new))
         gatherer.old gatherer.new (flat_map row_text rows.now) result }
 {
     for row in rows {
@@ -160,9 +151,9 @@ fn put_rows<L: Link>(gatherer: &mut Gatherer, rows: &[ValueRow], link: &mut L) -
 fn put_row<L: Link>(gatherer: &mut Gatherer, row: &ValueRow, link: &mut L) -> Result<(), Unsent>
     ensures { PutsOut
         (linked (L.left link.old) (L.read_faults link.old) (L.sent link.old) (L.write_faults link.old)
-            (L.refusals link.old) (L.agains link.old))
+        (L.refusals link.old) (L.agains link.old))
         (linked (L.left link.new) (L.read_faults link.new) (L.sent link.new) (L.write_faults link.new)
-            (L.refusals link.new) (L.agains link.new))
+        (L.refusals link.new) (L.agains link.new))
         gatherer.old gatherer.new (row_text row.now) result }
 {
     gatherer.put(ROW_START, link)?;
