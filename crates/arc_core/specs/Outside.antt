@@ -36,6 +36,10 @@ pub record Outgoing : Type 0 where
 abbrev pub outgoing : Option (List ℕ) → ℕ → ℕ → Outgoing
 outgoing sent faults refusals = record { sent = sent; faults = faults; refusals = refusals }
 
+-- the same with these bytes sent behind all others
+abbrev pub sent_more : Outgoing → List ℕ → Outgoing
+sent_more out bytes = record out { sent = then_sent out.sent bytes }
+
 -- A snapshot of a link: both sides, and how often it had to be asked again.
 pub record Linked : Type 0 where
   pub incoming : Incoming

@@ -1,5 +1,5 @@
 -- What was told of a line, and of a unit.
-use Rattle.std.proofs.Common.{◌≡◌, ℕ, List, [], ◌∷◌, Bool, true, false, Option, Some, None, Result, Ok, Err, refl, sym, ap, ◌∙◌, inl, inr, subst, arith}
+use Rattle.std.proofs.Common.{◌≡◌, ◌<◌, ◌^◌, ℕ, List, [], ◌∷◌, Bool, true, false, Option, Some, None, Result, Ok, Err, refl, sym, ap, ◌∙◌, inl, inr, subst, arith}
 use Rattle.std.specs.Prelude.{if◌then◌else◌}
 use Rattle.std.specs.Option.{option_map}
 use Rattle.std.specs.Result.{result_and}
@@ -23,7 +23,7 @@ use Rattle.line_grammar.specs.PlainHead.{is_quit}
 use Rattle.arcus_tool.specs.declared.stops.Stop.{Stop}
 use Rattle.arcus_tool.specs.declared.stops.Stop.TheVariants as stop
 use Rattle.arcus_tool.specs.Handling.{Stand, IsTold, TellsHead, AnswersLine, QuitsByLine, TellsLine, HasItsBlock, SendsBetween, Executed, Handles, HandlesLine, HandlesUnit, heard}
-use Rattle.arcus_tool.proofs.Sending.{sent_nothing}
+use Rattle.arcus_tool.proofs.Sending.{sent_no_more}
 
 -- nothing was executed
 pub nothing_executed : (from to : Stand) → to.state ≡ from.state → to.coming ≡ from.coming → Executed from to []
@@ -34,10 +34,10 @@ module _ (from to : Stand) (head : Head) (block : List ℕ) (silent : Bool) (sam
   sends_heard answer sends = subst (λ s. SendsBetween from to (if s then [] else answer) result) same sends
 
   -- a request was executed at a second of the clock, and its reply was sent
-  pub told_request : (request : PlainRequest) (reply : Reply) (second : ℕ) → Some request ≡ request_of head block
+  pub told_request : (request : PlainRequest) (reply : Reply) (second : ℕ) → second < 2 ^ 32 → Some request ≡ request_of head block
       → Ticks from.coming second to.coming → Executes from.state second request reply to.state → SendsBetween from to (if silent then [] else reply_text reply) result
       → IsTold (TellsHead head block) from to result
-  told_request request reply second is ticks executes sends =
+  told_request request reply second fits is ticks executes sends =
       let entry : Entry = record { seat = 0; session = 0; second = second; request = request; reply = reply } in (
         entry ∷ [],
         heard head (reply_text reply),
@@ -45,7 +45,7 @@ module _ (from to : Stand) (head : Head) (block : List ℕ) (silent : Bool) (sam
         record {
           legal = (to.state, executes, refl);
           seconds = (to.coming, ticks, refl);
-          own = (record { seat = refl; session = refl }, tt);
+          own = (record { seat = refl; session = refl; second = fits }, tt);
         },
         sends_heard (reply_text reply) sends,
       )
@@ -146,7 +146,7 @@ module _ (from to : Stand) (line block : List ℕ) (head : Head) (is_head : IsHe
 -- the line is `quit`, and nothing was done
 pub handles_quit : (at : Stand) (line block : List ℕ) → QuitsByLine line → HandlesLine line block at at (Err stop.Quit)
 handles_quit at line block quits =
-    (([], [], inr (inr (quits, refl, refl)), nothing_executed at at refl refl, (record { whole = sym (sent_nothing at.sent) }, refl, refl)), quits)
+    (([], [], inr (inr (quits, refl, refl)), nothing_executed at at refl refl, sym (sent_no_more at.out)), quits)
 
 -- the session answered the line
 pub handles_fault : (from to : Stand) (line block : List ℕ) (answer : Word) (result : Result Unit Stop) → AnswersLine line block answer → line_is_silent line ≡ false
