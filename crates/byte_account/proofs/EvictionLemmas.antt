@@ -13,7 +13,8 @@ use Rattle.arc_core.specs.Places.{others, to_front, weight_of}
 use Rattle.arc_core.specs.Room.{survivors}
 use Rattle.byte_account.specs.ByBytes.{by_bytes, entry_by_bytes}
 use Rattle.byte_account.specs.Eviction.{is_last, to_back, PopsDownTo}
-use Rattle.byte_account.proofs.ShelfLists.{AreApart-cons, AreApart-tail, IsAbsent-head, IsAbsent, IsAbsent-front, IsAbsent-before, AreApart-front, weight-others, weight_under, lookup-append, AreApart, IsAbsent-back, IsAbsent-differs, others-append, others-absent, weight-cons, same_key, own_key, AreApart-to_front, weight-to_front}
+use Rattle.byte_account.specs.Weight.{weight_under}
+use Rattle.byte_account.proofs.ShelfLists.{AreApart-cons, AreApart-tail, IsAbsent-head, IsAbsent, IsAbsent-front, IsAbsent-before, AreApart-front, weight-others, lookup-append, AreApart, IsAbsent-back, IsAbsent-differs, others-append, others-absent, weight-cons, same_key, own_key, AreApart-to_front, weight-to_front}
 
 pub lt-leb-false : (a b : ℕ) → a < b → nat_le b a ≡ false
 lt-leb-false a b h = grind (arith, nat_tests)

@@ -88,13 +88,13 @@ module _ {X : Type 0} (key : List ℕ) where
 pub touched-absent : {X : Type 0} (key : List ℕ) (places : Places X) → found key places ≡ None → touched key places ≡ places
 touched-absent key places absent =
     let same : to_front key places.shelf ≡ places.shelf = ap (λ o. option_map_or (λ x. (key, x) ∷ others key places.shelf) o places.shelf) (absent_from_shelf key places absent) in
-    λ i. record { shelf = same i; sticky = places.sticky; limit = places.limit }
+    λ i. record { shelf = same i; sticky = places.sticky; limit = places.limit; share = places.share }
 
 pub without-absent : {X : Type 0} (key : List ℕ) (places : Places X) → found key places ≡ None → without key places ≡ places
 without-absent key places absent =
     let on_shelf = others-absent key places.shelf (absent_from_shelf key places absent) in
     let in_sticky = remove-absent places.sticky key (absent_from_sticky key places absent) in
-    λ i. record { shelf = on_shelf i; sticky = in_sticky i; limit = places.limit }
+    λ i. record { shelf = on_shelf i; sticky = in_sticky i; limit = places.limit; share = places.share }
 
 -- where a key has an item, it has a place with that item
 pub found_item : {T : Type 0} (place : Option (Option T)) (item : T) → Some item ≡ option_flatten place → place ≡ Some (Some item)

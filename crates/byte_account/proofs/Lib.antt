@@ -9,6 +9,7 @@ pub mod StickyMaps
 pub mod StickySums
 pub mod PlacesLaws
 pub mod AccountingLaws
+pub mod ShareLaws
 pub mod RoomLaws
 pub mod FoundLaws
 pub mod EvictionLaws

@@ -4,7 +4,8 @@ use Rattle.std.specs.Option.{option_or}
 use Rattle.std.specs.Map.{lookup, set_value}
 use Rattle.std.specs.FinMap as finite
 use Rattle.arc_core.specs.Places.{Places, HasEachKeyOnce, found, others, shelved, touched, placed, refilled, without, weight_of, total_of}
-use Rattle.byte_account.proofs.ShelfLists.{IsAbsent, same_key, others-absent, lookup-others, lookup-others_apart, AreApart-others, AreApart-to_front, AreApart-set_value, AreApart-shelved, lookup-to_front, is_some-set_value, lookup-shelved_apart, shelved-new, set_value-absent, weight_under, weight-others, weight-to_front, weight-set_value, weight-shelved}
+use Rattle.byte_account.specs.Weight.{weight_under}
+use Rattle.byte_account.proofs.ShelfLists.{IsAbsent, same_key, others-absent, lookup-others, lookup-others_apart, AreApart-others, AreApart-to_front, AreApart-set_value, AreApart-shelved, lookup-to_front, is_some-set_value, lookup-shelved_apart, shelved-new, set_value-absent, weight-others, weight-to_front, weight-set_value, weight-shelved}
 use Rattle.arc_core.specs.Room.{evicted}
 use Rattle.byte_account.proofs.EvictionLemmas.{AreApart-survivors, is_some-survivors}
 use Rattle.byte_account.proofs.StickyMaps.{get-insert, get-remove}
@@ -46,25 +47,25 @@ module _ {X : Type 0} where
   not_on_shelf places once key there = not_on_shelf_at places once key (lookup (bytes_eq key) places.shelf) refl there
 
   -- a new place, on either side
-  pub placed-new_sticky : (key : List ℕ) (x : X) (places new : Places X) → found key places ≡ None → new.shelf ≡ places.shelf → new.sticky ≡ finite.insert places.sticky key x → new.limit ≡ places.limit → new ≡ placed true key x places
-  placed-new_sticky key x places new absent shelf sticky limit =
+  pub placed-new_sticky : (key : List ℕ) (x : X) (places new : Places X) → found key places ≡ None → new.shelf ≡ places.shelf → new.sticky ≡ finite.insert places.sticky key x → new.limit ≡ places.limit → new.share ≡ places.share → new ≡ placed true key x places
+  placed-new_sticky key x places new absent shelf sticky limit share =
       let same = shelf ∙ sym (others-absent key places.shelf (absent_from_shelf key places absent)) in
-      λ i. record { shelf = same i; sticky = sticky i; limit = limit i }
+      λ i. record { shelf = same i; sticky = sticky i; limit = limit i; share = share i }
 
-  pub placed-new_listed : (key : List ℕ) (x : X) (places new : Places X) → found key places ≡ None → new.shelf ≡ (key, x) ∷ places.shelf → new.sticky ≡ places.sticky → new.limit ≡ places.limit → new ≡ placed false key x places
-  placed-new_listed key x places new absent shelf sticky limit =
+  pub placed-new_listed : (key : List ℕ) (x : X) (places new : Places X) → found key places ≡ None → new.shelf ≡ (key, x) ∷ places.shelf → new.sticky ≡ places.sticky → new.limit ≡ places.limit → new.share ≡ places.share → new ≡ placed false key x places
+  placed-new_listed key x places new absent shelf sticky limit share =
       let first = shelf ∙ sym (shelved-new key x places.shelf (absent_from_shelf key places absent)) in
       let same = sticky ∙ sym (remove-absent places.sticky key (absent_from_sticky key places absent)) in
-      λ i. record { shelf = first i; sticky = same i; limit = limit i }
+      λ i. record { shelf = first i; sticky = same i; limit = limit i; share = share i }
 
   -- a place that moves to the other side
-  pub placed-moved_sticky : (key : List ℕ) (x : X) (places new : Places X) → new.shelf ≡ others key places.shelf → new.sticky ≡ finite.insert places.sticky key x → new.limit ≡ places.limit → new ≡ placed true key x places
-  placed-moved_sticky key x places new shelf sticky limit = λ i. record { shelf = shelf i; sticky = sticky i; limit = limit i }
+  pub placed-moved_sticky : (key : List ℕ) (x : X) (places new : Places X) → new.shelf ≡ others key places.shelf → new.sticky ≡ finite.insert places.sticky key x → new.limit ≡ places.limit → new.share ≡ places.share → new ≡ placed true key x places
+  placed-moved_sticky key x places new shelf sticky limit share = λ i. record { shelf = shelf i; sticky = sticky i; limit = limit i; share = share i }
 
-  pub placed-moved_listed : (key : List ℕ) (x : X) (places new : Places X) → IsAbsent key places.shelf → new.shelf ≡ (key, x) ∷ places.shelf → new.sticky ≡ finite.remove places.sticky key → new.limit ≡ places.limit → new ≡ placed false key x places
-  placed-moved_listed key x places new absent shelf sticky limit =
+  pub placed-moved_listed : (key : List ℕ) (x : X) (places new : Places X) → IsAbsent key places.shelf → new.shelf ≡ (key, x) ∷ places.shelf → new.sticky ≡ finite.remove places.sticky key → new.limit ≡ places.limit → new.share ≡ places.share → new ≡ placed false key x places
+  placed-moved_listed key x places new absent shelf sticky limit share =
       let first = shelf ∙ sym (shelved-new key x places.shelf absent) in
-      λ i. record { shelf = first i; sticky = sticky i; limit = limit i }
+      λ i. record { shelf = first i; sticky = sticky i; limit = limit i; share = share i }
 
   -- each key has one place at most, after each change
 

@@ -20,8 +20,8 @@ none_there : {A : Type 0} (x : A) (o : Option A) → o ≡ None → o ≡ Some x
 none_there x o h k = cc
 
 module _ {X : Type 0} (Good : Bool → X → Type 0) where
-  pub AllOnSides-empty : (limit : ℕ) → AllOnSides Good (empty_places limit)
-  AllOnSides-empty limit = record {
+  pub AllOnSides-empty : (limit share : ℕ) → AllOnSides Good (empty_places limit share)
+  AllOnSides-empty limit share = record {
     on_shelf = λ q x h. absurd (cc);
     sticky = λ q x h. absurd (none_there x (finite.get finite.empty q) (finite.get-empty (slice_cmp nat_cmp) q) h);
   }

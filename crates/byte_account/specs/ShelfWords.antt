@@ -4,6 +4,7 @@ use Rattle.std.specs.Option.{option_map_or, option_flatten}
 use Rattle.std.specs.Map.{lookup}
 use Rattle.std.specs.FinMap as finite
 use Rattle.arc_core.specs.Places.{Places, found, placed, without}
+use Rattle.byte_account.specs.Weight.{weight_under}
 use Rattle.byte_account.specs.declared.room.Room.{Room}
 use Rattle.byte_account.specs.declared.room.Room.TheVariants.{Fits, Nothing}
 
@@ -15,6 +16,10 @@ item_at key places = option_flatten (found key places)
 abbrev pub on_side : {X : Type 0} → Bool → List ℕ → Places X → Option X
 on_side true key places = finite.get places.sticky key
 on_side false key places = lookup (bytes_eq key) places.shelf
+
+-- what the key's place weighs; 0 where it has none
+abbrev pub weight_at : {X : Type 0} → (List ℕ → X → ℕ) → List ℕ → Places X → ℕ
+weight_at weigh key places = weight_under weigh key (found key places)
 
 -- the key's place moved to the side that is named
 abbrev pub restuck : {X : Type 0} → Bool → List ℕ → Places X → Places X

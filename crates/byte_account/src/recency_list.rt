@@ -222,8 +222,8 @@ fn replace_in<T: Weighs>(
     }
 }
 
-// The bytes that a place weighs.
-fn weigh_place<T: Weighs>(name: &Vec<u8>, place: &Option<T>) -> u64
+/// The bytes that a place weighs.
+pub(crate) fn weigh_place<T: Weighs>(name: &Vec<u8>, place: &Option<T>) -> u64
     ensures { result ≡ place_weight T.weigh name.now.items place.now }
 {
     match place {

@@ -1,13 +1,14 @@
 //! The shelf: items under their keys, their bytes accounted, and room found by the least eviction.
-ghost use Rattle.std.specs.Prelude.{◌≡◌, ◌+◌, ◌≤◌, ◌≤ℤ◌, pos, not, bytes_eq, Option, Some, None, length, option_copied, if◌then◌else◌, IfOk, OnOk, OnErr, IsSome};
+ghost use Rattle.std.specs.Prelude.{◌≡◌, ◌+◌, ◌≤◌, ◌≤ℤ◌, pos, not, bytes_eq, Option, Some, None, length, option_map, option_copied, if◌then◌else◌, IfOk, OnOk, OnErr, IsSome, is_some};
 ghost use Rattle.std.specs.Option.{option_or, option_flatten};
 ghost use Rattle.std.specs.List.{IsDistinct};
 ghost use Rattle.std.specs.Map.{keys_of, lookup, set_value};
 ghost use Rattle.std.specs.FinMap as finite;
-ghost use Rattle.arc_core.specs.Places.{Places, HasEachKeyOnce, empty_places, found, others, count_of, total_of, touched, placed, refilled, without};
-ghost use Rattle.arc_core.specs.Room.{room, evicted};
+ghost use Rattle.arc_core.specs.Places.{Places, HasEachKeyOnce, empty_places, found, others, count_of, total_of, sticky_total_of, touched, placed, refilled, without};
+ghost use Rattle.arc_core.specs.Room.{room, share_fits, least_eviction, evicted};
+ghost use Rattle.byte_account.specs.Accounting.{HasShareFor};
 ghost use Rattle.byte_account.specs.LeastEviction.{IsLeastEviction};
-ghost use Rattle.byte_account.specs.ShelfWords.{added_by, item_at, on_side, restuck, cancelled, room_answer};
+ghost use Rattle.byte_account.specs.ShelfWords.{added_by, item_at, weight_at, on_side, restuck, cancelled, room_answer};
 ghost use Rattle.byte_account.specs.Weight.{place_weight};
 
 use crate::Weighs;
@@ -22,14 +23,17 @@ use std::marker::Model;
 /// used first.
 ///
 /// A place may be hollow: the key has it, and its item, which weighs nothing, is still to come. Contracts see the
-/// shelf as its places on both sides, where a hollow one has no item, and its limit in bytes. The total of the items'
-/// weights is at most the limit, and no key has two places.
+/// shelf as its places on both sides, where a hollow one has no item, its limit and its share, both in bytes. The total
+/// of all weights is at most the limit, that of the sticky items' at most the share, and no key has two places.
 #[derive(Drop)]
 pub struct Shelf<T: Weighs> {
     list: RecencyList<T>,
     sticky: StickyTable<T>,
     limit: u64,
+    // Of the limit, what the sticky items may weigh.
+    share: u64,
     total: u64,
+    sticky_total: u64,
 }
 
 impl<T: Weighs> Model for Shelf<T> {
@@ -38,28 +42,32 @@ impl<T: Weighs> Model for Shelf<T> {
     ghost use Rattle.arc_core.specs.Places.{Places};
     ghost use Rattle.byte_account.specs.PlacesCode.{places_code};
     ghost use Rattle.byte_account.specs.Weight.{place_weight};
-    ghost use Rattle.byte_account.specs.Accounting.{IsAccounted};
+    ghost use Rattle.byte_account.specs.Accounting.{IsAccounted, IsWithinShare};
 
     ghost Value = { Places (Option T) };
 
     ghost coded = { places_code (coded_option T.code) };
 
-    ghost view = { λ s. record { shelf = s.list; sticky = s.sticky; limit = s.limit } };
+    ghost view = { λ s. record { shelf = s.list; sticky = s.sticky; limit = s.limit; share = s.share } };
 
-    ghost invariant = { λ s. IsAccounted (place_weight T.weigh) (record { shelf = s.list; sticky = s.sticky; limit = s.limit }) s.total };
+    ghost invariant = { λ s. IsAccounted (place_weight T.weigh) (record { shelf = s.list; sticky = s.sticky; limit = s.limit; share = s.share }) s.total
+        × IsWithinShare (place_weight T.weigh) (record { shelf = s.list; sticky = s.sticky; limit = s.limit; share = s.share }) s.sticky_total };
 }
 
 impl<T: Weighs> Shelf<T> {
-    /// An empty shelf with this limit in bytes. `NoMemory` comes for want of memory alone.
-    pub fn new(alloc: Global, limit: u64) -> Result<Shelf<T>, NoMemory>
-        ensures { IfOk result (λ shelf. shelf ≡ empty_places limit) }
+    /// An empty shelf with this limit in bytes, of which sticky items may take this share. `NoMemory` comes for want of
+    /// memory alone.
+    pub fn new(alloc: Global, limit: u64, share: u64) -> Result<Shelf<T>, NoMemory>
+        ensures { IfOk result (λ shelf. shelf ≡ empty_places limit share) }
     {
         let list = RecencyList::new(alloc)?;
         Ok(Shelf {
             list,
             sticky: StickyTable::new(alloc),
             limit,
+            share,
             total: 0,
+            sticky_total: 0,
         })
     }
 
@@ -70,6 +78,14 @@ impl<T: Weighs> Shelf<T> {
         ensures once { HasEachKeyOnce self.now }
     {
         self.total
+    }
+
+    /// The bytes that the sticky items weigh together, which are at most the share.
+    pub fn sticky_total(&self) -> u64
+        ensures sum { result ≡ sticky_total_of (place_weight T.weigh) self.now }
+        ensures within { result ≤ self.now.share }
+    {
+        self.sticky_total
     }
 
     /// The number of places, hollow ones among them.
@@ -122,22 +138,43 @@ impl<T: Weighs> Shelf<T> {
         }
     }
 
-    /// Whether `extra` bytes more fit under the key, and after how many evictions of the least recently used places but
-    /// the key's own. `extra` is what the total rises by, or falls by where it is negative.
+    /// Whether `extra` bytes more fit under the key, `sticky_extra` of them among the sticky items, and after how many
+    /// evictions of the least recently used places but the key's own. `extra` is what the total rises by, or falls by where
+    /// it is negative, and `sticky_extra` what the sticky total does.
     ///
-    /// `Fits` has the least number of evictions, 0 where `extra` is not above 0. `Nothing` comes exactly where not even
-    /// evicting all of these places makes room. (This server's own rule.)
-    pub fn room(&self, key: &[u8], extra: i64) -> Room
-        ensures room { result ≡ room_answer (room (place_weight T.weigh) self.now key.now extra) }
-        ensures least { IsLeastEviction (place_weight T.weigh) self.now key.now extra result }
-        ensures nothing_added { extra ≤ℤ pos 0 → result ≡ Room.Fits 0 }
+    /// `Fits` has the least number of evictions, 0 where `extra` is not above 0. `Nothing` comes exactly where the sticky
+    /// total would pass the share, in which no eviction makes room, or where not even evicting all of these places makes
+    /// room. (This server's own rule.)
+    pub fn room(&self, key: &[u8], extra: i64, sticky_extra: i64) -> Room
+        ensures room { result ≡ room_answer (room (place_weight T.weigh) self.now key.now extra sticky_extra) }
+        ensures least { IsLeastEviction (place_weight T.weigh) self.now key.now extra sticky_extra result }
+        ensures nothing_added { extra ≤ℤ pos 0 → result ≡ (if share_fits (place_weight T.weigh) self.now sticky_extra then Room.Fits 0 else Room.Nothing) }
     {
-        let spare = self.limit - self.total;
-        let need = added(extra).saturating_sub(spare);
-        match self.list.fewest_to_free(key, need) {
+        if !self.share_fits(sticky_extra) {
+            return Room::Nothing;
+        }
+        match self.least_eviction(key, extra) {
             Some(evictions) => Room::Fits(evictions),
             None => Room::Nothing,
         }
+    }
+
+    // Whether so many bytes more among the sticky items are within the share.
+    fn share_fits(&self, sticky_extra: i64) -> bool
+        ensures { result ≡ share_fits (place_weight T.weigh) self.now sticky_extra }
+    {
+        let spare = self.share - self.sticky_total;
+        added(sticky_extra) <= spare
+    }
+
+    // The fewest evictions that keep the limit with `extra` bytes more under the key.
+    fn least_eviction(&self, key: &[u8], extra: i64) -> Option<u64>
+        ensures least { result ≡ option_map length (least_eviction (place_weight T.weigh) self.now key.now extra) }
+        ensures nothing_added { extra ≤ℤ pos 0 → result ≡ Some 0 }
+    {
+        let spare = self.limit - self.total;
+        let need = added(extra).saturating_sub(spare);
+        self.list.fewest_to_free(key, need)
     }
 
     /// Evicts the `n` least recently used places but the key's, of which there have to be so many. The key's place and
@@ -156,36 +193,44 @@ impl<T: Weighs> Shelf<T> {
         ensures places { self.new ≡ refilled key.now None self.old }
         ensures absent { found key.now self.old ≡ None → self.new ≡ self.old }
     {
-        let item = refill(&mut self.list, &mut self.sticky, key, None)?;
-        self.total -= item.weight(key);
+        let taken = refill(&mut self.list, &mut self.sticky, key, None);
+        let item = taken.item?;
+        let weight = item.weight(key);
+        self.total -= weight;
+        self.sticky_total -= sticky_part(weight, taken.sticky);
         Some(item)
     }
 
     /// Puts the item into the key's place, which has to be hollow. The total and the item's weight together have to be
-    /// at most the limit.
+    /// at most the limit; where the place is sticky, the sticky total and the item's weight at most the share.
     pub fn lay(&mut self, key: &[u8], item: T)
         requires hollow { found key.now self.old ≡ Some None }
         requires room { total_of (place_weight T.weigh) self.old + T.weigh key.now item ≤ self.old.limit }
+        requires share { HasShareFor (finite.contains_key self.old.sticky key.now) (place_weight T.weigh) self.old (T.weigh key.now item) }
         ensures { self.new ≡ refilled key.now (Some item) self.old }
     {
-        self.total += item.weight(key);
-        refill(&mut self.list, &mut self.sticky, key, Some(item));
+        let weight = item.weight(key);
+        let taken = refill(&mut self.list, &mut self.sticky, key, Some(item));
+        self.total += weight;
+        self.sticky_total += sticky_part(weight, taken.sticky);
     }
 
     /// Moves the key's place to the other side: among the sticky ones, or to the front of the list. The key has to have
-    /// a place there where it is taken from.
+    /// a place there where it is taken from. Where it gets to be sticky, the sticky total and the place's weight together
+    /// have to be at most the share.
     ///
     /// `NoMemory` comes for want of memory alone, and then nothing has changed.
     pub fn restick(&mut self, key: &[u8], sticky: bool) -> Result<(), NoMemory>
-        requires { IsSome (on_side (not sticky) key.now self.old) }
+        requires place { IsSome (on_side (not sticky) key.now self.old) }
+        requires share { HasShareFor sticky (place_weight T.weigh) self.old (weight_at (place_weight T.weigh) key.now self.old) }
         ensures ok { OnOk result (self.new ≡ restuck sticky key.now self.old) }
         ensures err { OnErr result (self.new ≡ self.old) }
     {
         if sticky {
-            self.sticky.take_from(&mut self.list, key)?;
-            return Ok(());
+            self.sticky_total += self.sticky.take_from(&mut self.list, key)?;
+        } else {
+            self.sticky_total -= self.sticky.give_to(&mut self.list, key)?;
         }
-        self.sticky.give_to(&mut self.list, key)?;
         Ok(())
     }
 
@@ -196,18 +241,22 @@ impl<T: Weighs> Shelf<T> {
         ensures places { self.new ≡ without key.now self.old }
         ensures absent { found key.now self.old ≡ None → self.new ≡ self.old }
     {
-        let item = take_away(&mut self.list, &mut self.sticky, key)?;
-        self.total -= item.weight(key);
+        let taken = take_away(&mut self.list, &mut self.sticky, key);
+        let item = taken.item?;
+        let weight = item.weight(key);
+        self.total -= weight;
+        self.sticky_total -= sticky_part(weight, taken.sticky);
         Some(item)
     }
 
     /// Takes all places away.
     pub fn clear(&mut self)
-        ensures { self.new ≡ empty_places self.old.limit }
+        ensures { self.new ≡ empty_places self.old.limit self.old.share }
     {
         self.list.clear();
         self.sticky.clear();
         self.total = 0;
+        self.sticky_total = 0;
     }
 
     // The key's place, on whichever side.
@@ -228,38 +277,73 @@ fn added(extra: i64) -> u64
     if extra > 0 { extra as u64 } else { 0 }
 }
 
-// Puts something else into the key's place, on whichever side. Answers the item that was there.
+// What stood in a key's place, on whichever side.
+#[derive(Drop)]
+struct Taken<T: Weighs> {
+    // None where the key had no place, or a hollow one.
+    item: Option<T>,
+    sticky: bool,
+}
+
+// What of a weight is among the sticky items.
+fn sticky_part(weight: u64, sticky: bool) -> u64
+    ensures { result ≡ (if sticky then weight else 0) }
+{
+    if sticky { weight } else { 0 }
+}
+
+// Puts something else into the key's place, on whichever side. Answers what was there.
 fn refill<T: Weighs>(
     list: &mut RecencyList<T>,
     sticky: &mut StickyTable<T>,
     key: &[u8],
     place: Option<T>,
-) -> Option<T>
+) -> Taken<T>
     requires { IsSome (lookup (bytes_eq key.now) list.old) → finite.get sticky.old key.now ≡ None }
-    ensures item { result ≡ option_flatten (option_or (lookup (bytes_eq key.now) list.old) (finite.get sticky.old key.now)) }
+    ensures item { result.item ≡ option_flatten (option_or (lookup (bytes_eq key.now) list.old) (finite.get sticky.old key.now)) }
+    ensures side { result.sticky ≡ finite.contains_key sticky.old key.now }
     ensures list { list.new ≡ set_value (bytes_eq key.now) list.old place }
     ensures sticky { sticky.new ≡ (if finite.contains_key sticky.old key.now then finite.insert sticky.old key.now place else sticky.old) }
 {
     match list.replace(key, place) {
-        Ok(old) => old,
-        Err(place) => sticky.replace(key, place)?,
+        Ok(item) => Taken {
+            item,
+            sticky: false,
+        },
+        Err(place) => taken_from_sticky(sticky.replace(key, place)),
     }
 }
 
-// Takes the key's place away, on whichever side. Answers the item that was there.
+// Takes the key's place away, on whichever side. Answers what was there.
 fn take_away<T: Weighs>(
     list: &mut RecencyList<T>,
     sticky: &mut StickyTable<T>,
     key: &[u8],
-) -> Option<T>
+) -> Taken<T>
     requires apart { IsDistinct bytes_eq (keys_of list.old) }
     requires once { IsSome (lookup (bytes_eq key.now) list.old) → finite.get sticky.old key.now ≡ None }
-    ensures item { result ≡ option_flatten (option_or (lookup (bytes_eq key.now) list.old) (finite.get sticky.old key.now)) }
+    ensures item { result.item ≡ option_flatten (option_or (lookup (bytes_eq key.now) list.old) (finite.get sticky.old key.now)) }
+    ensures side { result.sticky ≡ finite.contains_key sticky.old key.now }
     ensures list { list.new ≡ others key.now list.old }
     ensures sticky { sticky.new ≡ finite.remove sticky.old key.now }
 {
     match list.remove(key) {
-        Some((_, old)) => old,
-        None => sticky.remove(key)?,
+        Some((_, item)) => Taken {
+            item,
+            sticky: false,
+        },
+        None => taken_from_sticky(sticky.remove(key)),
+    }
+}
+
+// What was taken from the sticky places, of which the key had one or none.
+fn taken_from_sticky<T: Weighs>(place: Option<Option<T>>) -> Taken<T>
+    ensures item { result.item ≡ option_flatten place }
+    ensures side { result.sticky ≡ is_some place }
+{
+    let sticky = place.is_some();
+    match place {
+        Some(item) => Taken { item, sticky },
+        None => Taken { item: None, sticky },
     }
 }

@@ -23,7 +23,7 @@ use Rattle.arc_core.specs.Step.{Plan, tell, put, take_away, take_all, extra_of, 
 use Rattle.byte_account.specs.declared.room.Room.TheVariants.{Fits}
 use Rattle.byte_account.specs.LeastEviction.{IsLeastEviction}
 use Rattle.byte_account.specs.ShelfWords.{room_answer}
-use Rattle.byte_account.proofs.ShelfLists.{weight_under}
+use Rattle.byte_account.specs.Weight.{weight_under}
 use Rattle.byte_account.proofs.PlacesLaws.{total-touched, total-without, total-placed, HasEachKeyOnce-evicted}
 use Rattle.byte_account.proofs.AccountingLaws.{IsAccounted-empty}
 use Rattle.byte_account.proofs.FoundLaws.{found-evicted}

@@ -6,7 +6,7 @@ use Rattle.std.specs.Option.{option_map_or}
 use Rattle.arc_core.specs.Places.{Places, HasEachKeyOnce, found, others, placed, refilled, total_of}
 use Rattle.arc_core.specs.Room.{evicted, fits, room}
 use Rattle.byte_account.specs.declared.room.Room.TheVariants.{Fits, Nothing}
-use Rattle.byte_account.specs.Weight.{place_weight}
+use Rattle.byte_account.specs.Weight.{place_weight, weight_under}
 use Rattle.byte_account.specs.ShelfWords.{on_side, restuck, room_answer, cancelled}
 use Rattle.byte_account.specs.LeastEviction.{IsLeastEviction}
 use Rattle.byte_account.proofs.PlacesLaws.{HasEachKeyOnce-evicted, HasEachKeyOnce-placed, total-placed, total-refilled}
@@ -14,7 +14,6 @@ use Rattle.byte_account.proofs.FoundLaws.{found-placed, found-evicted, found-ref
 use Rattle.byte_account.proofs.EvictionLaws.{evicted_makes_room}
 use Rattle.byte_account.proofs.StoreLaws.{refilled-placed, evicted-placed, room-placed, refilled-refilled, placed-held, cancelled-placed}
 use Rattle.byte_account.proofs.MovedLaws.{on_side-evicted, others-made, refilled-made, evicted-moved}
-use Rattle.byte_account.proofs.ShelfLists.{weight_under}
 use Rattle.cache_engine.specs.declared.stored.Stored.{Stored}
 use Rattle.cache_engine.specs.Putting.{weigh, sticky_of, added, room_for, IsPut}
 
