@@ -7,8 +7,7 @@ pub loop-taken-init : goal.loop-taken-init
 loop-taken-init g c = record {
   few = omega arith;
   between = record { waits = c.requires.fresh.waits; tail = []; stands = c.requires.fresh.stands };
-  nothing_waits = c.requires.nothing_waits;
-  ran = ([], refl, ran_nowhere _ _ c.args.frames.now c.requires.fresh.stands);
+  ran = ([], refl, ran_nowhere _ _ _ c.args.frames.now c.requires.nothing_waits c.requires.fresh.stands);
 }
 
 pub loop-taken-preserved : goal.loop-taken-preserved
@@ -21,13 +20,8 @@ loop-taken-preserved g c =
     record {
       few = omega (arith, ran.1, few, keeps.1);
       between = keeps.2;
-      nothing_waits = c.in-More.ensures.nothing_waits;
       ran = (ran.0 ++ leaves.0, omega (arith, length-append ran.0 leaves.0, leaves.1, ran.1), leaves.2);
     }
 
 pub returns : goal.returns
-returns g c =
-    let ran = c.loop-taken.invariant.ran in
-    let all : length ran.0 ≡ 2 ^ 40 = omega (arith, ran.1, c.loop-taken.invariant.few, c.loop-taken-test.false) in
-    let rest = holds_rest c.loop-taken.frames c.loop-taken.invariant.between.waits c.reader_stands_for_a_unit.ensures in
-    over_at_limit _ _ _ _ _ c.loop-taken.frames ran.0 ran.2 all rest
+returns g c = ?
