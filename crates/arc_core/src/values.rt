@@ -12,8 +12,10 @@ pub const MAX_VALUE_BYTES: u32 = 1_048_576;
 /// The most bytes of an element's value.
 pub const MAX_ELEMENT_BYTES: u32 = 32_768;
 
-// From so many bytes on a value is shared.
-const SHARED_LEN: usize = 4_096;
+// From so many bytes on a value is shared. (Measured, a value that is stored and read once: with 1,024 bytes 583
+// instructions and 88 ns where it is copied, 799 and 98 ns where it is shared; with 2,048 bytes 140 ns and 123 ns; with
+// 4,096 bytes 1,459 and 173 ns, 1,229 and 143 ns.)
+const SHARED_LEN: usize = 2_048;
 
 /// The bytes of an item or element. Contracts see it as the list of its bytes.
 ///
