@@ -8,6 +8,7 @@ pub mod Grammar
 pub mod Growth
 pub mod HexText
 pub mod History
+pub mod InsertPlan
 pub mod Item
 pub mod Key
 pub mod KeyValueGrammar
@@ -19,6 +20,7 @@ pub mod Room
 pub mod Rows
 pub mod SessionText
 pub mod ShortBytes
+pub mod Span
 pub mod Step
 pub mod Words
 pub mod WorkedFilters

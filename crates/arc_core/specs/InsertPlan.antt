@@ -4,8 +4,8 @@ use Rattle.arc_core.specs.declared.collections.Action.{Action}
 use Rattle.arc_core.specs.declared.collections.Action.TheVariants as action
 use Rattle.arc_core.specs.declared.collections.Side.{Side}
 use Rattle.arc_core.specs.declared.collections.Side.TheVariants.{Low, High}
-use Rattle.list_coll.specs.declared.plan.ListPlan.{ListPlan}
-use Rattle.list_coll.specs.declared.plan.ListPlan.TheVariants.{Store, StoreAndTrim, OutOfRange, Overflowed}
+use Rattle.arc_core.specs.declared.lists.ListPlan.{ListPlan}
+use Rattle.arc_core.specs.declared.lists.ListPlan.TheVariants.{Store, StoreAndTrim, OutOfRange, Overflowed}
 
 -- an action that a list can have
 abbrev pub IsListAction : Action → Type 0

@@ -2,7 +2,7 @@
 use Rattle.std.specs.Prelude.{◌≡◌, ℕ, ℤ, pos, negsuc, ◌+ℤ◌, ◌-ℤ◌, int_le, unsigned_abs, Bool, true, false, if◌then◌else◌, Option, Some, None, refl}
 use Rattle.std.specs.Int.{int_min, int_max}
 use Rattle.arc_core.specs.declared.collections.IndexRange.{IndexRange}
-use Rattle.list_coll.specs.declared.span.Part.{Part}
+use Rattle.arc_core.specs.declared.lists.Part.{Part}
 
 -- the place of an index in a list of n elements: an index i at or above 0 is place i, an index -k is place n - k
 abbrev pub place_of : ℤ → ℕ → ℤ

@@ -1,7 +1,6 @@
 -- A list `ys` that shows what a function gives of each element of another list `xs`.
 use Rattle.std.proofs.Common.{◌≡◌, ℕ, Bool, true, false, cond, not, ◌||◌, ltb, suc, ◌+◌, ◌++◌, List, [], ◌∷◌, map, length, position, remove, drop, min, if◌then◌else◌, None, Some, Result, Ok, IfOk, inl, inr, refl, sym, ap, subst, ◌∙◌, arith}
 use Rattle.std.specs.List.{prefix_len, position_or_len, list_any, AllByRecursion, IsDistinct, remove_range}
-use Rattle.indexmap.specs.IndexSet.{insert_key}
 use Rattle.std.proofs.lemmas.Bool.{cases_lt}
 use Rattle.std.proofs.lemmas.Bool.Decides.{nat_tests}
 use Rattle.std.proofs.lemmas.List.{length-map, take-map, drop-map, drop_all, map-append}
@@ -14,7 +13,7 @@ list_any-position p (x ∷ xs) =
     [ true ↦ grind (arith, nat_tests) | false ↦ list_any-position p xs ∙ grind (arith, nat_tests) ]
 
 -- where no place passes, no element does
-list_any-position_None : {X : Type 0} (p : X → Bool) (xs : List X) → position p xs ≡ None → list_any p xs ≡ false
+pub list_any-position_None : {X : Type 0} (p : X → Bool) (xs : List X) → position p xs ≡ None → list_any p xs ≡ false
 list_any-position_None p xs none = list_any-position p xs ∙ by (ltb (position_or_len p xs) (length xs)) none
   where
     by : (b : Bool) → cond b (Some (position_or_len p xs)) None ≡ None → b ≡ false
@@ -23,9 +22,9 @@ list_any-position_None p xs none = list_any-position p xs ∙ by (ltb (position_
 
 -- the list after an insert that found no equal element
 pub inserted_last : {X E : Type 0} (eq : X → X → Bool) (xs new : List X) (x : X) (r : Result Bool E) (b : Bool) → r ≡ Ok b
-    → IfOk r (λ _. new ≡ insert_key eq xs x) → list_any (eq x) xs ≡ false → new ≡ xs ++ x ∷ []
+    → IfOk r (λ _. new ≡ (if list_any (eq x) xs then xs else xs ++ x ∷ [])) → list_any (eq x) xs ≡ false → new ≡ xs ++ x ∷ []
 inserted_last eq xs new x r b ok inserted absent =
-    let P : Result Bool _ → Type 0 = λ r. IfOk r (λ _. new ≡ insert_key eq xs x) in
+    let P : Result Bool _ → Type 0 = λ r. IfOk r (λ _. new ≡ (if list_any (eq x) xs then xs else xs ++ x ∷ [])) in
     subst P ok inserted ∙ ap (λ found. if found then xs else xs ++ x ∷ []) absent
 
 -- the list after its first n elements, or all where there are fewer, are removed as a range
