@@ -19,8 +19,12 @@ pub mod Room
 pub mod Rows
 pub mod SessionText
 pub mod ShortBytes
+pub mod Settling
 pub mod Step
+pub mod TreeContents
+pub mod TreeReading
 pub mod Words
 pub mod WorkedFilters
 pub mod WorkedRows
 pub mod WorkedSteps
+pub mod WorkedTrees
