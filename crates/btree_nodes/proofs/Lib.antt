@@ -1,0 +1,4 @@
+pub mod BalanceLemmas
+pub mod ChildrenLemmas
+pub mod MovingLemmas
+pub mod SplitLemmas
