@@ -10,7 +10,7 @@ use Rattle.arc_core.specs.declared.collections.Side.TheVariants.{Low, High}
 use Rattle.arc_core.specs.declared.trees.Elem.{Elem}
 use Rattle.arc_core.specs.declared.trees.Edges.{Edges}
 use Rattle.arc_core.specs.declared.trees.TreeRead.{TreeRead}
-use Rattle.arc_core.specs.TreeContents.{place_of, with_element}
+use Rattle.arc_core.specs.TreeContents.{place_of, with_element, elem_sizes}
 use Rattle.arc_core.specs.TreeReading.{selected, chosen, covered_range, meets_zone, keeps_edge}
 use Rattle.arc_core.specs.Settling.{stored, out_of_range, overflowed, settled, settled_edges}
 
@@ -154,3 +154,7 @@ down_to_two_is_whole = refl
 -- byte bkeys: a proper prefix stands before
 place_of_prefix : place_of (Bytes (0 ∷ 0 ∷ [])) (record { bkey = Bytes (0 ∷ []); eflag = None; value = [] } ∷ record { bkey = Bytes (1 ∷ []); eflag = None; value = [] } ∷ []) ≡ 1
 place_of_prefix = refl
+
+-- stated sizes: a number counts 8 bytes, byte bkeys and flags their own
+sizes_of_two : elem_sizes (elem 1 (codes "abc") ∷ record { bkey = Bytes (0 ∷ 0 ∷ []); eflag = Some (17 ∷ []); value = codes "x" } ∷ []) ≡ 111
+sizes_of_two = refl

@@ -35,3 +35,15 @@ pub least_over : (bkey : Bkey) (children : List Subtree) (first : Subtree) → 1
 least_over bkey [] first some is some_elements least d more = absurd (omega arith)
 least_over bkey (child ∷ others) first some is some_elements least d more =
     subst (λ (child : Subtree). bkey ≡ (get_or (child.elements ++ all_elements others) 0 d).bkey) is (least d some_elements ∙ ap (λ (elem : Elem). elem.bkey) (sym (get_or_append_left first.elements (all_elements others) d 0 some_elements)))
+
+-- one level up
+pub fill_up : (width k total : ℕ) → width * 16 ^ k ≤ total → width * 16 ^ (k + 1) ≤ 16 * total
+fill_up width k total fill = subst (λ power. width * power ≤ 16 * total) (sym (pow_more 16 k)) (let p = 16 ^ k in omega (arith, fill))
+
+-- a branch over children that are dense is dense
+pub branch_dense : (children : List Subtree) (room height : ℕ) → All (IsChildAt height) children → height_over children ≡ height → IsDense (branch_of children room)
+branch_dense [] room height all is = omega arith
+branch_dense (child ∷ others) room height all is =
+    let P : Subtree → Type 0 = λ below. 16 ^ child.height ≤ length below.elements in
+    let fill : All P (child ∷ others) = λ k d within. subst (λ level. 16 ^ level ≤ length (get_or (child ∷ others) k d).elements) (omega (arith, (all k d within).level)) (child_fill height (get_or (child ∷ others) k d) (all k d within)) in
+    fill_up (length (child ∷ others)) child.height (length (all_elements (child ∷ others))) (all_fill (child ∷ others) (16 ^ child.height) fill)

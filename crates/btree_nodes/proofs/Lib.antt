@@ -2,3 +2,4 @@ pub mod BalanceLemmas
 pub mod ChildrenLemmas
 pub mod MovingLemmas
 pub mod SplitLemmas
+pub mod InsertLemmas

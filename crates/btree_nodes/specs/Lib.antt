@@ -1,5 +1,6 @@
 pub mod Empties
 pub mod FoundAt
+pub mod Growth
 pub mod NodeFalls
 pub mod NodeRules
 pub mod PartRules

@@ -1,7 +1,7 @@
 -- What a split of a full node leaves.
 use Rattle.std.specs.Prelude.{◌≡◌, ℕ, ◌+◌, ◌≤◌, ◌++◌}
 use Rattle.btree_nodes.specs.declared.spare.Spare.{Spare}
-use Rattle.btree_nodes.specs.Subtree.{Subtree}
+use Rattle.btree_nodes.specs.Subtree.{Subtree, IsDense}
 
 -- A node is now two of 16 elements or children, with its elements in order.
 pub record IsSplit (old first second : Subtree) : Type 0 where
@@ -12,6 +12,8 @@ pub record IsSplit (old first second : Subtree) : Type 0 where
   pub second_width : second.width ≡ 16
   pub first_room : first.room ≡ old.room
   pub second_room : 32 ≤ second.room
+  pub first_dense : IsDense first
+  pub second_dense : IsDense second
 
 -- One spare node was used, for a node of this height.
 pub record IsSpent (height : ℕ) (old new : Spare) : Type 0 where

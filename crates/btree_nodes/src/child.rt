@@ -7,6 +7,7 @@ use arc_core::{Bkey, Elem};
 use std::marker::Model;
 
 mod finding;
+mod insertion;
 mod making;
 mod splitting;
 
