@@ -19,10 +19,14 @@ pub mod ReplyText
 pub mod Room
 pub mod Rows
 pub mod SessionText
+pub mod Settling
 pub mod ShortBytes
 pub mod Span
 pub mod Step
+pub mod TreeContents
+pub mod TreeReading
 pub mod Words
 pub mod WorkedFilters
 pub mod WorkedRows
 pub mod WorkedSteps
+pub mod WorkedTrees

@@ -38,7 +38,9 @@ mod trees;
 mod values;
 mod word_lists;
 
-pub use attributes::{AttrList, AttrName, AttrNumber, AttrValue, AttrView, Attrs, CreateArgs, MAX_ATTRIBUTES};
+pub use attributes::{
+    AttrList, AttrName, AttrNumber, AttrValue, AttrView, Attrs, CreateArgs, MAX_ATTRIBUTES,
+};
 pub use bkeys::{Bkey, BkeyRange};
 pub use clocks::ListClock;
 pub use collections::{Action, IndexRange, Kind, Side, Take};

@@ -26,7 +26,9 @@ impl Pieces {
     // So many bytes came.
     fn pass(&mut self, count: usize) {
         self.came = self.came.saturating_add(count);
-        if let Some(length) = self.lengths.get(self.place) && self.came >= *length {
+        if let Some(length) = self.lengths.get(self.place)
+            && self.came >= *length
+        {
             self.place = self.place.saturating_add(1);
             self.came = 0;
         }
@@ -143,12 +145,7 @@ pub struct MemoryLink {
 impl MemoryLink {
     /// A link from which these bytes come, in pieces of these lengths, and to which nothing was sent; the listed calls are
     /// answered otherwise. Takes no memory.
-    pub fn new(
-        alloc: Global,
-        bytes: Vec<u8>,
-        lengths: Vec<usize>,
-        calls: LinkCalls,
-    ) -> MemoryLink
+    pub fn new(alloc: Global, bytes: Vec<u8>, lengths: Vec<usize>, calls: LinkCalls) -> MemoryLink
         ensures left { ⟦<MemoryLink as Link>⟧.left result ≡ Some bytes.items }
         ensures sent { ⟦<MemoryLink as Link>⟧.sent result ≡ Some [] }
         ensures no_read_fault { ⟦<MemoryLink as Link>⟧.read_faults result ≡ 0 }

@@ -1,0 +1,5 @@
+pub mod BalanceLemmas
+pub mod ChildrenLemmas
+pub mod MovingLemmas
+pub mod SplitLemmas
+pub mod InsertLemmas
