@@ -12,10 +12,11 @@ use Rattle.frame_reader.specs.Progress.{Progress, StandsFor, ready_unit}
 use Rattle.arcus_tool.specs.Output.{HasCause}
 use Rattle.arcus_tool.specs.Waiting.{Grew, Flushes}
 use Rattle.arcus_tool.specs.Handling.{Stand, stand, Went, GoesOn, StopsAt, BrokeOff, NoneFinal, OnlyLastFinal, IsTooLong}
+use Rattle.arcus_tool.specs.declared.stops.Stop.{Stop}
 use Rattle.arcus_tool.specs.declared.stops.Stop.TheVariants as stop
 use Rattle.arcus_tool.specs.declared.status.Status.{Status}
 use Rattle.arcus_tool.specs.declared.status.Status.TheVariants as status
-use Rattle.arcus_tool.specs.Session.{Outside, outside, IsSession, RanSoFar, CameTo, start_of, status_at_end, Ends, ReadToEnd, SentWhole, HandledAll, CountsOnly, SameReads, SameWrites, SameRefusals, IsOver, Finishes}
+use Rattle.arcus_tool.specs.Session.{Outside, outside, IsSession, RanSoFar, CameTo, start_of, status_at_end, Ends, ReadToEnd, SentWhole, HandledAll, CountsOnly, SameReads, SameWrites, SameRefusals, IsOver, Finishes, status_of}
 use Rattle.arcus_tool.proofs.Histories.{spans_more, only_of_none}
 use Rattle.arcus_tool.proofs.Going.{went_by}
 use Rattle.arcus_tool.proofs.Flushing.{broke_waiting, broke_at_flush}
@@ -122,20 +123,26 @@ module _ (opening : CacheState) (before : Outside) (state : CacheState) (coming 
   module _ (out out' : Outgoing) (waiting waiting' : List ℕ) (few : length taken ≤ 2 ^ 40) where
     -- the session is over where texts waited, or the flush was tried and failed
     module _ (grew : Grew before.out.sent out'.sent) (units : List Whole) (tail : List ℕ) (went : Went (start_of opening before) (stand state coming (sent_more out waiting)) taken units tail) (only : OnlyLastFinal units) where
-      pub over_at_failed_flush : Flushes out out' waiting waiting' (Err stop.Failed) → IsOver opening before (stand state coming out') out' incoming status.WriteFault
+      over_at_failed_flush : Flushes out out' waiting waiting' (Err stop.Failed) → IsOver opening before (stand state coming out') out' incoming status.WriteFault
       over_at_failed_flush failed =
           over_at_write_fault out' few (broke_at_flush (start_of opening before) state coming out out' waiting waiting' taken stop.Failed units tail grew went only failed)
 
-      pub over_at_refused_flush : Flushes out out' waiting waiting' (Err stop.NoMemory) → IsOver opening before (stand state coming out') out' incoming status.NoMemory
+      over_at_refused_flush : Flushes out out' waiting waiting' (Err stop.NoMemory) → IsOver opening before (stand state coming out') out' incoming status.NoMemory
       over_at_refused_flush refused =
           over_without_memory out' few (broke_at_flush (start_of opening before) state coming out out' waiting waiting' taken stop.NoMemory units tail grew went only refused)
+
+      -- the session is over for the cause of a failed flush
+      over_at_flush : (cause : Stop) → Flushes out out' waiting waiting' (Err cause) → IsOver opening before (stand state coming out') out' incoming (status_of cause)
+      over_at_flush stop.Failed failed = over_at_failed_flush failed
+      over_at_flush stop.NoMemory failed = over_at_refused_flush failed
+      over_at_flush stop.LineTooLong failed = absurd failed.2
+      over_at_flush stop.Quit failed = absurd failed.2
 
       -- the session was to end so, and what waited was sent or not
       over_finished : (meant ended : Status) → (out' ≡ sent_more out waiting → IsOver opening before (stand state coming out') out' incoming meant)
           → Finishes out out' waiting waiting' meant ended → IsOver opening before (stand state coming out') out' incoming ended
       over_finished meant ended over (inl done) = subst (IsOver opening before (stand state coming out') out' incoming) (sym done.1) (over done.0.1)
-      over_finished meant ended over (inr (inl refused)) = subst (IsOver opening before (stand state coming out') out' incoming) (sym refused.1) (over_at_refused_flush refused.0)
-      over_finished meant ended over (inr (inr failed)) = subst (IsOver opening before (stand state coming out') out' incoming) (sym failed.1) (over_at_failed_flush failed.0)
+      over_finished meant ended over (inr stopped) = subst (IsOver opening before (stand state coming out') out' incoming) (sym stopped.2) (over_at_flush stopped.0 stopped.1)
 
     -- the session is over at `quit`
     pub over_at_quit : (ended : Status) (most : ℕ) → Grew before.out.sent out'.sent → most ≤ 16384 → StopsAt IsQuitUnit (start_of opening before) (stand state coming (sent_more out waiting)) taken most
@@ -166,6 +173,10 @@ module _ (opening : CacheState) (before : Outside) (state : CacheState) (coming 
       -- what was taken is cut into the units that were handled and an unfinished tail
       handled_all : HandledAll goes.0 goes.1
       handled_all = record { none_final = goes.4; unfinished = rest goes.1 goes.3 }
+
+      -- the session is over where what waited was not sent before a pull
+      pub over_before_a_pull : (cause : Stop) → Grew before.out.sent out'.sent → Flushes out out' waiting waiting' (Err cause) → IsOver opening before (stand state coming out') out' incoming (status_of cause)
+      over_before_a_pull cause grew failed = over_at_flush grew goes.0 goes.1 went_here (only_of_none goes.0 goes.4) cause failed
 
       -- the session is over at 2^40 bytes
       pub over_at_limit : (ended : Status) → Grew before.out.sent out'.sent → length taken ≡ 2 ^ 40 → Finishes out out' waiting waiting' status.LongInput ended

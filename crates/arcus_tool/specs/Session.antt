@@ -13,6 +13,7 @@ use Rattle.arcus_tool.specs.Handling.{Stand, stand, TicksThrough, IsOwn, GoesOn,
 use Rattle.arcus_tool.specs.declared.status.Status.{Status}
 use Rattle.arcus_tool.specs.declared.status.Status.TheVariants as status
 use Rattle.arcus_tool.specs.Waiting.{Flushes}
+use Rattle.arcus_tool.specs.declared.stops.Stop.{Stop}
 use Rattle.arcus_tool.specs.declared.stops.Stop.TheVariants as stop
 use Rattle.arcus_tool.specs.declared.stops.Turn.{Turn}
 use Rattle.arcus_tool.specs.declared.stops.Turn.TheVariants as turn
@@ -203,12 +204,18 @@ pub record CameTo (opening : CacheState) (before : Outside) (at : Stand) (incomi
   pub no_fault : incoming.faults ≡ before.incoming.faults
   pub goes : GoesOn (start_of opening before) at (taken ++ piece) progress piece
 
+-- the status of a session that stops for this cause
+abbrev pub status_of : Stop → Status
+status_of stop.Failed = status.WriteFault
+status_of stop.NoMemory = status.NoMemory
+status_of stop.LineTooLong = status.LineTooLong
+status_of stop.Quit = status.Done
+
 -- All that waited was sent, and the status is the one that was meant; or it tells why not all was sent.
 abbrev pub Finishes : (before after : Outgoing) (waiting waiting' : List ℕ) → (meant ended : Status) → Type 0
 Finishes before after waiting waiting' meant ended =
     (Flushes before after waiting waiting' (Ok tt) × (ended ≡ meant))
-    ⊎ ((Flushes before after waiting waiting' (Err stop.NoMemory) × (ended ≡ status.NoMemory))
-    ⊎ (Flushes before after waiting waiting' (Err stop.Failed) × (ended ≡ status.WriteFault)))
+    ⊎ ((cause : Stop) × Flushes before after waiting waiting' (Err cause) × (ended ≡ status_of cause))
 
 -- The session is over, if the state keeps its rules; `out` is what has gone out to the sink.
 abbrev pub IsOver : CacheState → Outside → Stand → Outgoing → Incoming → Status → Type 0

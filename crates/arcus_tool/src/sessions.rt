@@ -39,8 +39,7 @@ fn finish<'a, 'b, S: Source, K: Sink, J: Joins>(
 {
     match link.flush() {
         Ok(()) => status,
-        Err(Stop::NoMemory) => Status::NoMemory,
-        Err(_) => Status::WriteFault,
+        Err(stop) => stop.status(),
     }
 }
 
@@ -104,8 +103,7 @@ fn pull_once<'a, 'b, S: Source, K: Sink, E: Executor, C: Clock, J: Joins>(
         Ok(Pull::Failed) => Turn::Over(Status::ReadFault),
         // A source never has to be asked again.
         Ok(Pull::Again) => unreachable!(),
-        Err(Stop::NoMemory) => Turn::Over(Status::NoMemory),
-        Err(_) => Turn::Over(Status::WriteFault),
+        Err(stop) => Turn::Over(stop.status()),
     }
 }
 
