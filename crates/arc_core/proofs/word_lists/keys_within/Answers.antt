@@ -10,12 +10,12 @@ returns-in_default c =
 
 pub returns-then-most-eq0 : goal.returns-then-most-eq0
 returns-then-most-eq0 c =
-    let taken = TakenKey-from _ _ c.in-Some.first c.in-Some.ensures.read in
+    let taken = TakenKey-from c.of-words.result c.next_key.new.self c.in-Some.first c.in-Some.ensures.read in
     sym (at_most_keys-no_room c.args.most _ _ c.in-Some.first taken c.if-most-eq0.true) ∙ ap (at_most_keys c.args.most) c.of-words.ensures
 
 pub returns-in_err-more : goal.returns-in_err-more
 returns-in_err-more c =
-    let taken = TakenKey-from _ _ c.in-Some.first c.in-Some.ensures.read in
+    let taken = TakenKey-from c.of-words.result c.next_key.new.self c.in-Some.first c.in-Some.ensures.read in
     let most = c.args.most in
     c.from_residual.ensures
     ∙ sym (at_most_keys-none most (most - 1) _ _ c.in-Some.first taken (omega (arith, c.if-most-eq0.false)) (sym c.count_keys.ensures ∙ c.in_err-more.was))
@@ -23,14 +23,14 @@ returns-in_err-more c =
 
 pub overflow_add-result : goal.overflow_add-result
 overflow_add-result c =
-    let taken = TakenKey-from _ _ c.in-Some.first c.in-Some.ensures.read in
+    let taken = TakenKey-from c.of-words.result c.next_key.new.self c.in-Some.first c.in-Some.ensures.read in
     let most = c.args.most in
     let known = CountedKeys-from most (most - 1) c.in_ok-more.more _ _ c.in-Some.first taken (omega (arith, c.if-most-eq0.false)) (sym c.count_keys.ensures ∙ c.in_ok-more.was) in
     omega (arith, known.fits, c.ranges.most.fits)
 
 pub invariant_of-result : goal.invariant_of-result
 invariant_of-result c =
-    let taken = TakenKey-from _ _ c.in-Some.first c.in-Some.ensures.read in
+    let taken = TakenKey-from c.of-words.result c.next_key.new.self c.in-Some.first c.in-Some.ensures.read in
     let most = c.args.most in
     let known = CountedKeys-from most (most - 1) c.in_ok-more.more _ _ c.in-Some.first taken (omega (arith, c.if-most-eq0.false)) (sym c.count_keys.ensures ∙ c.in_ok-more.was) in
     let P : List (List ℕ) → Type 0 = λ list. AreKeys list × (1 + c.in_ok-more.more ≡ length list) in
@@ -40,7 +40,7 @@ invariant_of-result c =
 
 pub returns : goal.returns
 returns c =
-    let taken = TakenKey-from _ _ c.in-Some.first c.in-Some.ensures.read in
+    let taken = TakenKey-from c.of-words.result c.next_key.new.self c.in-Some.first c.in-Some.ensures.read in
     let most = c.args.most in
     let known = CountedKeys-from most (most - 1) c.in_ok-more.more _ _ c.in-Some.first taken (omega (arith, c.if-most-eq0.false)) (sym c.count_keys.ensures ∙ c.in_ok-more.was) in
     rw (c.bytes.ensures.bytes, c.text-behind.ensures) (ap Some (sym taken.words_are) ∙ sym known.found ∙ ap (at_most_keys most) c.of-words.ensures)
