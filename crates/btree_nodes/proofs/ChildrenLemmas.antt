@@ -66,6 +66,18 @@ branch_high [] room is_branch = absurd (omega (arith, is_branch.some))
 branch_high (child ∷ others) room is_branch =
     omega (arith, (All-head (IsChildAt (child.height + 1)) child others is_branch.balanced).high)
 
+-- the elements below children of which one was replaced
+pub set_elements : (children : List Subtree) (i : ℕ) (other : Subtree) → i < length children
+    → all_elements (set children i other) ≡ all_elements (take i children) ++ (other.elements ++ all_elements (drop (i + 1) children))
+set_elements children i other within =
+    let len = length-set children i other in
+    let rest : drop (i + 1) (set children i other) ≡ drop (i + 1) children = drop-set-lt (i + 1) children i other (omega arith) in
+    let there = get_or-set_same children i other other within in
+    all_split (set children i other) i other (omega arith)
+    ∙ (ap (λ ys. all_elements ys ++ ((get_or (set children i other) i other).elements ++ all_elements (drop (i + 1) (set children i other)))) (take-set children i other)
+    ∙ (ap (λ (x : Subtree). all_elements (take i children) ++ (x.elements ++ all_elements (drop (i + 1) (set children i other)))) there
+    ∙ ap (λ ys. all_elements (take i children) ++ (other.elements ++ all_elements ys)) rest))
+
 -- Another child in the place of one: what is then below the branch, where it keeps the rules.
 pub record IsChildSet (children : List Subtree) (room i : ℕ) (other : Subtree) : Type 0 where
   pub branch : IsBranch (set children i other) room
@@ -80,14 +92,8 @@ child_set children room i old other is_branch within old_is same wide roomy dens
     let is_child : P other = record { level = omega (arith, was.level); high = omega (arith, was.high); wide = wide; roomy = roomy; dense = dense } in
     let all = All-set P children i other is_child is_branch.balanced in
     let len = length-set children i other in
-    let front = take_more_set children i other within in
-    let rest : drop (i + 1) (set children i other) ≡ drop (i + 1) children = drop-set-lt (i + 1) children i other (omega arith) in
-    let there = get_or-set_same children i other other within in
     record {
       branch = branch_from (height_over children) (set children i other) room (omega (arith, is_branch.some)) (omega (arith, is_branch.most)) is_branch.roomy all;
       height = height_of_children (height_over children) (set children i other) (omega (arith, is_branch.some)) all;
-      elements = all_split (set children i other) i other (omega arith)
-        ∙ (ap (λ ys. all_elements ys ++ ((get_or (set children i other) i other).elements ++ all_elements (drop (i + 1) (set children i other)))) (take-set children i other)
-        ∙ (ap (λ (x : Subtree). all_elements (take i children) ++ (x.elements ++ all_elements (drop (i + 1) (set children i other)))) there
-        ∙ ap (λ ys. all_elements (take i children) ++ (other.elements ++ all_elements ys)) rest));
+      elements = set_elements children i other within;
     }

@@ -9,6 +9,8 @@ use std::marker::Model;
 mod finding;
 mod insertion;
 mod making;
+mod pairing;
+mod removal;
 mod splitting;
 
 pub(crate) use finding::child_at;

@@ -4,6 +4,7 @@
 
 mod child;
 mod moving;
+mod runs;
 mod spare;
 mod steps;
 
