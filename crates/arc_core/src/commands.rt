@@ -51,7 +51,7 @@ pub enum Command<'a> {
         len: u32,
         number: u32,
     },
-    /// Adds to the number that a value spells, or takes from it where `up` is false. `initial` has the client flags, the
+    /// Adds to the number that a value spells, or takes from it where `up` is false (`incr`, `decr`). `initial` has the client flags, the
     /// exptime and the number of the item that is made where none is held.
     Count {
         up: bool,
