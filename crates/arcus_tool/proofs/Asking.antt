@@ -92,6 +92,9 @@ named_by word name is =
     by_tests false true e first second = let same : option.Sticky ≡ name = cc in second refl ∙ ap option_text same
     by_tests false false e first second = absurd cc
 
+same_pair : (a b : OptionName × List ℕ) → (let x : Option (OptionName × List ℕ) = Some a in x ≡ Some b) → a ≡ b
+same_pair a b e = cc
+
 -- a word that begins with an option is its name, `=` and what stands behind
 begun_by : (word : List ℕ) (name : OptionName) (value : List ℕ) → option_begun word ≡ Some (name, value) → word ≡ option_text name ++ 61 ∷ value
 begun_by word name value is =
@@ -103,12 +106,14 @@ begun_by word name value is =
           if limit then limits else if sticky then stickies else None) ≡ Some (name, value)
         → (limit ≡ true → take 8 word ≡ codes "--limit=") → (sticky ≡ true → take 9 word ≡ codes "--sticky=") → word ≡ option_text name ++ 61 ∷ value
     by_tests true sticky e first second =
-        let named : option.Limit ≡ name = cc in
-        let behind : drop 8 word ≡ value = cc in
+        let pair = same_pair (option.Limit, drop 8 word) (name, value) e in
+        let named : option.Limit ≡ name = ap (λ p. p.0) pair in
+        let behind : drop 8 word ≡ value = ap (λ p. p.1) pair in
         sym (take-append-drop 8 word) ∙ ap (λ t. t ++ drop 8 word) (first refl) ∙ ap (λ v. codes "--limit=" ++ v) behind ∙ ap (λ m. option_text m ++ 61 ∷ value) named
     by_tests false true e first second =
-        let named : option.Sticky ≡ name = cc in
-        let behind : drop 9 word ≡ value = cc in
+        let pair = same_pair (option.Sticky, drop 9 word) (name, value) e in
+        let named : option.Sticky ≡ name = ap (λ p. p.0) pair in
+        let behind : drop 9 word ≡ value = ap (λ p. p.1) pair in
         sym (take-append-drop 9 word) ∙ ap (λ t. t ++ drop 9 word) (second refl) ∙ ap (λ v. codes "--sticky=" ++ v) behind ∙ ap (λ m. option_text m ++ 61 ∷ value) named
     by_tests false false e first second = absurd cc
 
