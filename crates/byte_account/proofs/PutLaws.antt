@@ -425,3 +425,13 @@ module _ {X : Type 0} (weigh : List ℕ → X → ℕ) (sticky : Bool) (key : Li
     (asked : (extra sticky_extra : ℤ) → more ≡ added_by extra → sticky_more ≡ added_by sticky_extra → answer ≡ option_map length (room weigh places key extra sticky_extra)) where
   pub replace_room : answer ≡ option_map length (room_for weigh sticky key x places)
   replace_room = held_room weigh sticky key x places more sticky_more answer held.weight held_part_is weight part is.weight (held_part weigh key places held is once held_part_is held_is) weight_is part_is more_is sticky_more_is asked
+
+-- what a put leaves is within the limit and the share
+pub put_totals : {X : Type 0} (weigh : List ℕ → X → ℕ) (sticky : Bool) (key : List ℕ) (x : X) (places : Places X) (n : ℕ) → Some n ≡ option_map length (room_for weigh sticky key x places) → IsAccounted weigh places (total_of weigh places) → IsWithinShare weigh places (sticky_total_of weigh places)
+    → (total_of weigh (placed sticky key x (evicted key n places)) ≤ (placed sticky key x (evicted key n places)).limit) × (sticky_total_of weigh (placed sticky key x (evicted key n places)) ≤ (placed sticky key x (evicted key n places)).share)
+put_totals weigh sticky key x places n room accounted shared =
+    let limit = same_limit weigh sticky key x places n room accounted.once sticky in
+    let share = same_share weigh sticky key x places n room accounted.once sticky in (
+      omega (arith, limit, total_put weigh sticky key x places n room accounted.once, put_within weigh sticky key x places n room accounted.once),
+      omega (arith, share, sticky_total_put weigh sticky key x places n room accounted.once, share_within weigh sticky key x places n room accounted.once),
+    )
