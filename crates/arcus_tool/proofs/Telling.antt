@@ -11,15 +11,16 @@ use Rattle.arc_core.specs.declared.replies.Word.TheVariants as word
 use Rattle.arc_core.specs.declared.requests.Answer.{Answer}
 use Rattle.arc_core.specs.Outside.{Ticks}
 use Rattle.arc_core.specs.PlainRequest.{PlainRequest}
-use Rattle.arc_core.specs.KeyValueGrammar.{Command, Head, store, get, get_block, count, delete, touch, flush_all, version, quit}
+use Rattle.arc_core.specs.declared.commands.Command.{Command}
+use Rattle.arc_core.specs.declared.commands.Command.TheVariants as command
+use Rattle.arc_core.specs.declared.commands.Head.{Head}
 use Rattle.arc_core.specs.Words.{words, keys_counted}
-use Rattle.arc_core.specs.Grammar.{IsHead, IsBlockFor, Meets, line_needs, line_is_silent, is_silent, need_of, request_of}
+use Rattle.arc_core.specs.Grammar.{IsHead, IsBlockFor, Meets, line_needs, line_is_silent, is_silent, is_quit, need_of, request_of}
 use Rattle.arc_core.specs.History.{Entry, Executes}
 use Rattle.arc_core.specs.ReplyText.{reply_text, word_line}
 use Rattle.arc_core.specs.Framing.{Whole}
 use Rattle.arc_core.specs.Framing as whole
 use Rattle.arc_core.specs.SessionText.{TellsUnit, AnswersItself, IsQuitUnit, sent_for, sent_of}
-use Rattle.line_grammar.specs.PlainHead.{is_quit}
 use Rattle.arcus_tool.specs.declared.stops.Stop.{Stop}
 use Rattle.arcus_tool.specs.declared.stops.Stop.TheVariants as stop
 use Rattle.arcus_tool.specs.Handling.{Stand, IsTold, TellsHead, AnswersLine, QuitsByLine, TellsLine, HasItsBlock, SendsBetween, Executed, Handles, HandlesLine, HandlesUnit, heard}
@@ -62,37 +63,37 @@ mapped_none f None e = refl
 mapped_none f (Some a) e = cc
 
 -- A command with this block is one whose keys stand in it, and they are not so many.
-pub record AsksForKeys (command : Command) (block : List ℕ) : Type 0 where
+pub record AsksForKeys (asked : Command) (block : List ℕ) : Type 0 where
   pub len : ℕ
   pub number : ℕ
-  pub is : command ≡ get_block len number
+  pub is : asked ≡ command.GetBlock len number
   pub not_so_many : keys_counted number (words block) ≡ None
 
 -- where there is no request, the block of keys is bad
-keys_are_bad : (command : Command) (answer : Answer) (block : List ℕ) → is_quit command ≡ false → request_of (record { command = command; answer = answer }) block ≡ None → AsksForKeys command block
-keys_are_bad (store verb key flags exptime len) answer block goes none = absurd cc
-keys_are_bad (get keys unique) answer block goes none = absurd cc
-keys_are_bad (get_block len number) answer block goes none =
+keys_are_bad : (asked : Command) (answer : Answer) (block : List ℕ) → is_quit asked ≡ false → request_of (record { command = asked; answer = answer }) block ≡ None → AsksForKeys asked block
+keys_are_bad (command.Store verb key flags exptime len) answer block goes none = absurd cc
+keys_are_bad (command.Get keys unique) answer block goes none = absurd cc
+keys_are_bad (command.GetBlock len number) answer block goes none =
     let keys = keys_counted number (words block) in
     record { len = len; number = number; is = refl; not_so_many = mapped_none _ keys (mapped_none _ _ none) }
-keys_are_bad (count up key delta initial) answer block goes none = absurd cc
-keys_are_bad (delete key) answer block goes none = absurd cc
-keys_are_bad (touch key exptime) answer block goes none = absurd cc
-keys_are_bad flush_all answer block goes none = absurd cc
-keys_are_bad version answer block goes none = absurd cc
-keys_are_bad quit answer block goes none = absurd cc
+keys_are_bad (command.Count up key delta initial) answer block goes none = absurd cc
+keys_are_bad (command.Delete key) answer block goes none = absurd cc
+keys_are_bad (command.Touch key exptime) answer block goes none = absurd cc
+keys_are_bad command.FlushAll answer block goes none = absurd cc
+keys_are_bad command.Version answer block goes none = absurd cc
+keys_are_bad command.Quit answer block goes none = absurd cc
 
 -- a command that ends the session
-quit_of : (command : Command) → is_quit command ≡ true → command ≡ quit
-quit_of (store verb key flags exptime len) e = cc
-quit_of (get keys unique) e = cc
-quit_of (get_block len number) e = cc
-quit_of (count up key delta initial) e = cc
-quit_of (delete key) e = cc
-quit_of (touch key exptime) e = cc
-quit_of flush_all e = cc
-quit_of version e = cc
-quit_of quit e = refl
+quit_of : (asked : Command) → is_quit asked ≡ true → asked ≡ command.Quit
+quit_of (command.Store verb key flags exptime len) e = cc
+quit_of (command.Get keys unique) e = cc
+quit_of (command.GetBlock len number) e = cc
+quit_of (command.Count up key delta initial) e = cc
+quit_of (command.Delete key) e = cc
+quit_of (command.Touch key exptime) e = cc
+quit_of command.FlushAll e = cc
+quit_of command.Version e = cc
+quit_of command.Quit e = refl
 
 -- what was sent was sent for no reason to stop but a fault
 module _ {Told : List Entry → List ℕ → Type 0} {Quits Long : Type 0} (from to : Stand) (no_quit : Quits → ⊥) (not_long : Long → ⊥) where
@@ -107,7 +108,7 @@ module _ {Told : List Entry → List ℕ → Type 0} {Quits Long : Type 0} (from
 -- the line is `quit`
 pub quits_by : (line : List ℕ) (head : Head) → IsHead line head → line_needs line ≡ need_of head.command → is_quit head.command ≡ true → QuitsByLine line
 quits_by line head is_head needs quits =
-    let is : head.command ≡ quit = quit_of head.command quits in
+    let is : head.command ≡ command.Quit = quit_of head.command quits in
     record { is_quit = (head, is_head, is); asks_nothing = needs ∙ ap need_of is }
 
 module _ (from to : Stand) (line block : List ℕ) (head : Head) (is_head : IsHead line head) (needs : line_needs line ≡ need_of head.command) where

@@ -7,7 +7,7 @@ use Rattle.arc_core.specs.declared.replies.Word.{Word}
 use Rattle.arc_core.specs.declared.replies.Word.TheVariants as word
 use Rattle.arc_core.specs.Outside.{Ticks, Outgoing, sent_more}
 use Rattle.arc_core.specs.Framing.{Whole, BeginsWith, line_too_long}
-use Rattle.arc_core.specs.KeyValueGrammar.{Head}
+use Rattle.arc_core.specs.declared.commands.Head.{Head}
 use Rattle.arc_core.specs.Grammar.{SpellsRequest, IsUnknown, IsBadFormat, IsBadBlock, IsQuit, line_needs, is_silent, request_of}
 use Rattle.arc_core.specs.CacheState.{CacheState}
 use Rattle.arc_core.specs.History.{Entry, Replays}

@@ -2,19 +2,18 @@
 ghost use Rattle.std.specs.Prelude.{◌≡◌, ◌<◌, ◌≤◌, ◌^◌, ℕ, List, [], length, if◌then◌else◌, false, IfOk, IfSome, OnOk};
 ghost use Rattle.arc_core.specs.Outside.{incoming, outgoing};
 ghost use Rattle.arc_core.specs.Framing.{IsSpan};
-ghost use Rattle.arc_core.specs.Grammar.{IsHead, IsBlockFor, line_needs, line_is_silent};
+ghost use Rattle.arc_core.specs.Grammar.{IsHead, IsBlockFor, is_quit, line_needs, line_is_silent};
 ghost use Rattle.arc_core.specs.ReplyText.{reply_text, word_line};
 ghost use Rattle.arc_core.specs.SessionText.{sent_for};
 ghost use Rattle.frame_reader.specs.Units.{whole_of};
-ghost use Rattle.line_grammar.specs.PlainHead.{plain_head, is_quit};
 ghost use Rattle.arcus_tool.specs.Output.{Sends};
 ghost use Rattle.arcus_tool.specs.Handling.{Stand, stand, IsTold, TellsHead, HasItsBlock, HandlesLine, HandlesUnit, IsBetweenUnits, GoesOn, Takes, TakesAll};
 
 use crate::joined::Gathers;
 use crate::stops::Stop;
-use arc_core::{Clock, Executor, Reply, Word};
+use arc_core::{BlockFault, Clock, Executor, Head, Reply, Word};
 use frame_reader::{Frames, Unit};
-use line_grammar::{BlockFault, Head, KvHeads, LineFault, read_line};
+use line_grammar::{KvHeads, LineFault, read_line};
 use reply_print::{Wrote, write_reply};
 
 // Sends the text of a reply, or nothing where no answer is to be sent.
@@ -90,10 +89,10 @@ fn execute<'a, E: Executor, C: Clock, L: Gathers>(
     head: Head<'a>,
     block: &'a [u8],
 ) -> Result<(), Stop>
-    requires spelled { (line : List ℕ) × IsHead line (plain_head head) }
-    requires block { IsBlockFor (plain_head head).command block.now }
-    requires goes_on { is_quit (plain_head head).command ≡ false }
-    ensures told { IsTold (TellsHead (plain_head head.entry) block.now)
+    requires spelled { (line : List ℕ) × IsHead line head }
+    requires block { IsBlockFor head.command block.now }
+    requires goes_on { is_quit head.command ≡ false }
+    ensures told { IsTold (TellsHead head.entry block.now)
         (stand (E.state exec.old) (C.coming clock.old) (outgoing (L.sent link.old) (L.write_faults link.old) (L.refusals link.old)))
         (stand (E.state exec.new) (C.coming clock.new) (outgoing (L.sent link.new) (L.write_faults link.new) (L.refusals link.new))) result }
     ensures incoming { incoming (L.left link.new) (L.read_faults link.new) ≡ incoming (L.left link.old) (L.read_faults link.old) }

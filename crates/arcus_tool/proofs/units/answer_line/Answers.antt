@@ -1,6 +1,5 @@
 use Rattle.std.proofs.Common.{◌∙◌, ap, refl, sym, inl, inr, Err}
 use Rattle.arc_core.specs.declared.replies.Word.TheVariants as word
-use Rattle.line_grammar.specs.PlainHead.{plain_head}
 use Rattle.arcus_tool.proofs.Telling.{handles_quit, quits_by, handles_head, handles_fault, block_for}
 use Rattle.arcus_tool.proofs.units.answer_line.Goals as goal
 
@@ -8,13 +7,13 @@ pub returns-then-is_quit-clause-handles : goal.returns-then-is_quit-clause-handl
 returns-then-is_quit-clause-handles g c =
     let line = c.args.line.now in
     let known = c.in-Ok.ensures in
-    handles_quit _ line c.args.block.now (quits_by line (plain_head c.in-Ok.head) known.found known.needs (sym c.is_quit.ensures ∙ c.if-is_quit.true))
+    handles_quit _ line c.args.block.now (quits_by line c.in-Ok.head known.found known.needs (sym c.is_quit.ensures ∙ c.if-is_quit.true))
 
 pub returns-else-is_quit-clause-handles : goal.returns-else-is_quit-clause-handles
 returns-else-is_quit-clause-handles g c =
     let line = c.args.line.now in
     let known = c.in-Ok.ensures in
-    handles_head _ _ line c.args.block.now (plain_head c.in-Ok.head) known.found known.needs c.execute.result (block_for _ line c.args.block.now known.needs c.requires) known.silent
+    handles_head _ _ line c.args.block.now c.in-Ok.head known.found known.needs c.execute.result (block_for _ line c.args.block.now known.needs c.requires) known.silent
     (sym c.is_quit.ensures ∙ c.if-is_quit.false) known.only c.execute.ensures.told
 
 pub returns-in-Err-Unknown-clause-handles : goal.returns-in-Err-Unknown-clause-handles
