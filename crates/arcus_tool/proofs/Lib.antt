@@ -8,3 +8,4 @@ pub mod Ending
 pub mod Beginning
 pub mod Completeness
 pub mod Opening
+pub mod Asking

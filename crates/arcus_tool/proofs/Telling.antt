@@ -26,6 +26,13 @@ use Rattle.arcus_tool.specs.declared.stops.Stop.TheVariants as stop
 use Rattle.arcus_tool.specs.Handling.{Stand, IsTold, TellsHead, AnswersLine, QuitsByLine, TellsLine, HasItsBlock, SendsBetween, Executed, Handles, HandlesLine, HandlesUnit, heard}
 use Rattle.arcus_tool.proofs.Sending.{sent_no_more}
 
+-- two answers that are one
+pub only_ok : {A E : Type 0} (a other : A) → (let x : Result A E = Ok a in x ≡ Ok other) → a ≡ other
+only_ok a other e = cc
+
+pub no_head : {A E : Type 0} (fault : E) (other : A) → (let x : Result A E = Err fault in x ≡ Ok other) → ⊥
+no_head fault other e = cc
+
 -- nothing was executed
 pub nothing_executed : (from to : Stand) → to.state ≡ from.state → to.coming ≡ from.coming → Executed from to []
 nothing_executed from to state coming = record { legal = state; seconds = coming; own = tt }

@@ -1,5 +1,5 @@
 -- What the program does by its words.
-use Rattle.std.specs.Prelude.{◌≡◌, ◌==◌, ◌&&◌, ℕ, ◌+◌, ◌*◌, ◌/◌, nat_lt, if◌then◌else◌, List, [], ◌∷◌, ◌++◌, length, take, drop, slice_index, position, bytes_eq, codes, decimal, Option, Some, None, is_some, Result, Ok, Err}
+use Rattle.std.specs.Prelude.{◌≡◌, ◌==◌, ◌&&◌, ℕ, ◌+◌, ◌*◌, ◌/◌, nat_lt, if◌then◌else◌, List, [], ◌∷◌, ◌++◌, length, take, drop, slice_index, bytes_eq, codes, decimal, Option, Some, None, is_some, Result, Ok, Err}
 use Rattle.std.specs.Option.{option_map, option_map_or, option_and_then}
 use Rattle.arc_core.specs.Words.{number_below}
 use Rattle.arc_core.specs.CacheState.{CacheState, opening_state}
@@ -49,15 +49,21 @@ with_value option.Sticky n given = record given { share = Some n }
 abbrev pub option_read : Given → OptionName → Option Reading
 option_read given name = if is_some (given_of name given) then None else Some (reading.Value name given)
 
--- how far they are read with a word `--limit=<MiB>` or `--sticky=<percent>`, split at its first `=`
+-- the option that a word `--limit=<MiB>` or `--sticky=<percent>` begins with, and what stands behind its `=`
+abbrev pub option_begun : List ℕ → Option (OptionName × List ℕ)
+option_begun word =
+    if bytes_eq (take 8 word) (codes "--limit=") then Some (option.Limit, drop 8 word)
+    else if bytes_eq (take 9 word) (codes "--sticky=") then Some (option.Sticky, drop 9 word)
+    else None
+
+-- how far they are read with such an option, which was not given before
+abbrev pub begun_read : Given → OptionName × List ℕ → Option Reading
+begun_read given begun =
+    if is_some (given_of begun.0 given) then None else option_map (λ n. reading.Options (with_value begun.0 n given)) (option_value begun.0 begun.1)
+
+-- how far they are read with a word that is an option and its value
 abbrev pub whole_option_read : Given → List ℕ → Option Reading
-whole_option_read given word =
-    option_and_then (λ place.
-      option_and_then (λ name.
-        if is_some (given_of name given) then None
-        else option_map (λ n. reading.Options (with_value name n given)) (option_value name (drop (place + 1) word)))
-      (option_named (take place word)))
-    (position (λ b. b == 61) word)
+whole_option_read given word = option_and_then (begun_read given) (option_begun word)
 
 -- how far the words behind a command are read with one word more, or none where that is bad
 abbrev pub word_read : Reading → List ℕ → Option Reading

@@ -1,7 +1,7 @@
 //! The program's words.
 ghost use Rattle.std.specs.Prelude.{◌≡◌, ◌==◌, ◌≤◌, position, ◌+◌, ℕ, map, string_bytes, is_some, IfOk, IfSome};
 ghost use Rattle.arcus_tool.specs.Reading.{plain_answer, job_or, IsJob, IsValue, AreGiven, IsReading};
-ghost use Rattle.arcus_tool.specs.Words.{job_of, session_job, job_at_end, word_read, option_read, whole_option_read, option_named, option_value, plain_number, given_of, with_value};
+ghost use Rattle.arcus_tool.specs.Words.{job_of, session_job, job_at_end, word_read, option_read, whole_option_read, option_begun, option_named, option_value, plain_number, given_of, with_value};
 
 use arc_core::read_number;
 
@@ -141,12 +141,11 @@ impl Given {
         ensures reading { result ≡ whole_option_read self word.now }
         ensures limit { IfSome result IsReading }
     {
-        let place = first_equals(word)?;
-        let name = named(&word[..place])?;
+        let (name, value) = begun(word)?;
         if self.has(name) {
             return None;
         }
-        let value = value(name, &word[place + 1..])?;
+        let value = self::value(name, value)?;
         Some(Reading::Options(self.with_value(name, value)))
     }
 
@@ -180,11 +179,15 @@ impl Given {
     }
 }
 
-// The place of the first `=`.
-fn first_equals(word: &[u8]) -> Option<usize>
-    ensures { result ≡ position (λ b. b == 61) word.now }
+// The option that a word `--x=v` begins with, and what stands behind its `=`.
+fn begun(word: &[u8]) -> Option<(OptionName, &[u8])>
+    ensures { option_map (λ begun. (begun.0, begun.1.now)) result ≡ option_begun word.now }
 {
-    word.iter().position(|byte| *byte == b'=')
+    if let Some(value) = word.strip_prefix(b"--limit=".as_slice()) {
+        return Some((OptionName::Limit, value));
+    }
+    let value = word.strip_prefix(b"--sticky=".as_slice())?;
+    Some((OptionName::Sticky, value))
 }
 
 // Which option the word names.
