@@ -1,5 +1,7 @@
 //! The program's words.
-ghost use Rattle.std.specs.Prelude.{◌≡◌, ◌==◌, ◌≤◌, position, ◌+◌, ℕ, map, string_bytes, is_some, IfOk, IfSome};
+ghost use Rattle.std.specs.Prelude.{◌≡◌, ◌==◌, ◌≤◌, position, ◌+◌, ℕ, map, option_map, string_bytes, is_some, IfOk, IfSome};
+ghost use Rattle.std.specs.Prelude.{◌↔◌, List, Ok};
+ghost use Rattle.arcus_tool.specs.Asking.{AsksForSession};
 ghost use Rattle.arcus_tool.specs.Reading.{plain_answer, job_or, IsJob, IsValue, AreGiven, IsReading};
 ghost use Rattle.arcus_tool.specs.Words.{job_of, session_job, job_at_end, word_read, option_read, whole_option_read, option_begun, option_named, option_value, plain_number, given_of, with_value};
 
@@ -68,6 +70,15 @@ pub fn read_words(words: &[String]) -> Result<Job, BadWords>
         _ => Err(BadWords(0)),
     }
 }
+
+/// The program's words are read as a session exactly where they ask for one: `session`, and then options in any order,
+/// each at most once, with a value that it may have.
+///
+/// The function does nothing: this law is its contract.
+pub fn words_ask_for_a_session()
+    ensures { (words : List (List ℕ)) (limit share : ℕ) →
+        (job_of words ≡ Ok (Job.Session limit share)) ↔ AsksForSession words limit share }
+{}
 
 // Reads the words behind `session`, of which the first has place 1.
 fn read_options(words: &[String]) -> Result<Job, BadWords>

@@ -9,9 +9,10 @@ use Rattle.std.proofs.lemmas.List.{nil_from_length}
 use Rattle.arc_core.specs.Places.{Places, HasEachKeyOnce, empty_places, found, others, touched, placed, refilled, without, weight_of, total_of}
 use Rattle.arc_core.specs.Room.{evicted, survivors}
 use Rattle.byte_account.specs.Accounting.{IsAccounted}
+use Rattle.byte_account.specs.ShelfWords.{listed_at, stuck_at}
 use Rattle.byte_account.specs.Weight.{place_weight, weight_under}
 use Rattle.byte_account.proofs.ShelfLists.{IsDistinct-nil, set_value-absent}
-use Rattle.byte_account.proofs.PlacesLaws.{absent_from_shelf, absent_from_sticky, found-shelf, found-sticky, not_on_shelf, placed-new_sticky, placed-new_listed, placed-moved_sticky, placed-moved_listed, HasEachKeyOnce-touched, HasEachKeyOnce-placed, HasEachKeyOnce-refilled, HasEachKeyOnce-without, HasEachKeyOnce-evicted, total-touched, total-placed, total-refilled, total-without}
+use Rattle.byte_account.proofs.PlacesLaws.{absent_from_shelf, absent_from_sticky, found-shelf, found-sticky, not_on_shelf, placed-new, placed-moved_sticky, placed-moved_listed, HasEachKeyOnce-touched, HasEachKeyOnce-placed, HasEachKeyOnce-refilled, HasEachKeyOnce-without, HasEachKeyOnce-evicted, total-touched, total-placed, total-refilled, total-without}
 
 module _ {X : Type 0} where
   -- where the key has no place, there is none to refill
@@ -124,13 +125,10 @@ module _ {X : Type 0} (weigh : List ℕ → X → ℕ) where
 
 module _ {X : Type 0} (weigh : List ℕ → X → ℕ) (key : List ℕ) (x : X) (places new : Places X) (total : ℕ) where
   -- the new places, told by their parts
-  pub IsAccounted-new_sticky : IsAccounted weigh places total → found key places ≡ None → weigh key x ≡ 0 → new.shelf ≡ places.shelf → new.sticky ≡ finite.insert places.sticky key x → new.limit ≡ places.limit → new.share ≡ places.share → IsAccounted weigh new total
-  IsAccounted-new_sticky accounted absent none shelf sticky limit share =
-      subst (λ p. IsAccounted weigh p total) (sym (placed-new_sticky key x places new absent shelf sticky limit share)) (IsAccounted-reserved weigh true key x places total accounted absent none)
-
-  pub IsAccounted-new_listed : IsAccounted weigh places total → found key places ≡ None → weigh key x ≡ 0 → new.shelf ≡ (key, x) ∷ places.shelf → new.sticky ≡ places.sticky → new.limit ≡ places.limit → new.share ≡ places.share → IsAccounted weigh new total
-  IsAccounted-new_listed accounted absent none shelf sticky limit share =
-      subst (λ p. IsAccounted weigh p total) (sym (placed-new_listed key x places new absent shelf sticky limit share)) (IsAccounted-reserved weigh false key x places total accounted absent none)
+  pub IsAccounted-new : (sticky : Bool) → IsAccounted weigh places total → found key places ≡ None → weigh key x ≡ 0 → new.shelf ≡ listed_at sticky key x places.shelf → new.sticky ≡ stuck_at sticky key x places.sticky
+      → new.limit ≡ places.limit → new.share ≡ places.share → IsAccounted weigh new total
+  IsAccounted-new sticky accounted absent none shelf table limit share =
+      subst (λ p. IsAccounted weigh p total) (sym (placed-new sticky key x places new absent shelf table limit share)) (IsAccounted-reserved weigh sticky key x places total accounted absent none)
 
   pub IsAccounted-moved_sticky : IsAccounted weigh places total → lookup (bytes_eq key) places.shelf ≡ Some x → new.shelf ≡ others key places.shelf → new.sticky ≡ finite.insert places.sticky key x → new.limit ≡ places.limit → new.share ≡ places.share → IsAccounted weigh new total
   IsAccounted-moved_sticky accounted held shelf sticky limit share =

@@ -15,3 +15,4 @@ pub mod FoundLaws
 pub mod EvictionLaws
 pub mod FilledLaws
 pub mod StoreLaws
+pub mod PutLaws

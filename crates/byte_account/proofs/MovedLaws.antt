@@ -82,7 +82,7 @@ module _ {X : Type 0} (key : List ℕ) where
   to_front_absent : (shelf : List (List ℕ × X)) → IsAbsent key shelf → to_front key shelf ≡ shelf
   to_front_absent shelf absent = ap (λ o. option_map_or (λ x. (key, x) ∷ others key shelf) o shelf) absent
 
-  others-survivors : (n : ℕ) (shelf : List (List ℕ × X)) → survivors key n (others key shelf) ≡ others key (survivors key n shelf)
+  pub others-survivors : (n : ℕ) (shelf : List (List ℕ × X)) → survivors key n (others key shelf) ≡ others key (survivors key n shelf)
   others-survivors n [] = refl
   others-survivors n (place ∷ older) = others_survivors_by n place older (bytes_eq key place.0) (nat_le n (length (others key older))) refl refl (others-survivors n older)
 

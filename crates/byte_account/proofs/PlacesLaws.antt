@@ -4,6 +4,7 @@ use Rattle.std.specs.Option.{option_or}
 use Rattle.std.specs.Map.{lookup, set_value}
 use Rattle.std.specs.FinMap as finite
 use Rattle.arc_core.specs.Places.{Places, HasEachKeyOnce, found, others, shelved, touched, placed, refilled, without, weight_of, total_of}
+use Rattle.byte_account.specs.ShelfWords.{listed_at, stuck_at}
 use Rattle.byte_account.specs.Weight.{weight_under}
 use Rattle.byte_account.proofs.ShelfLists.{IsAbsent, same_key, others-absent, lookup-others, lookup-others_apart, AreApart-others, AreApart-to_front, AreApart-set_value, AreApart-shelved, lookup-to_front, is_some-set_value, lookup-shelved_apart, shelved-new, set_value-absent, weight-others, weight-to_front, weight-set_value, weight-shelved}
 use Rattle.arc_core.specs.Room.{evicted}
@@ -46,17 +47,13 @@ module _ {X : Type 0} where
   pub not_on_shelf : (places : Places X) → HasEachKeyOnce places → (key : List ℕ) → IsSome (finite.get places.sticky key) → IsAbsent key places.shelf
   not_on_shelf places once key there = not_on_shelf_at places once key (lookup (bytes_eq key) places.shelf) refl there
 
-  -- a new place, on either side
-  pub placed-new_sticky : (key : List ℕ) (x : X) (places new : Places X) → found key places ≡ None → new.shelf ≡ places.shelf → new.sticky ≡ finite.insert places.sticky key x → new.limit ≡ places.limit → new.share ≡ places.share → new ≡ placed true key x places
-  placed-new_sticky key x places new absent shelf sticky limit share =
-      let same = shelf ∙ sym (others-absent key places.shelf (absent_from_shelf key places absent)) in
-      λ i. record { shelf = same i; sticky = sticky i; limit = limit i; share = share i }
-
-  pub placed-new_listed : (key : List ℕ) (x : X) (places new : Places X) → found key places ≡ None → new.shelf ≡ (key, x) ∷ places.shelf → new.sticky ≡ places.sticky → new.limit ≡ places.limit → new.share ≡ places.share → new ≡ placed false key x places
-  placed-new_listed key x places new absent shelf sticky limit share =
+  -- a new place on the side that is named, told by its parts
+  pub placed-new : (sticky : Bool) (key : List ℕ) (x : X) (places new : Places X) → found key places ≡ None → new.shelf ≡ listed_at sticky key x places.shelf → new.sticky ≡ stuck_at sticky key x places.sticky
+      → new.limit ≡ places.limit → new.share ≡ places.share → new ≡ placed sticky key x places
+  placed-new true key x places new absent shelf sticky limit share = λ i. record { shelf = shelf i; sticky = sticky i; limit = limit i; share = share i }
+  placed-new false key x places new absent shelf sticky limit share =
       let first = shelf ∙ sym (shelved-new key x places.shelf (absent_from_shelf key places absent)) in
-      let same = sticky ∙ sym (remove-absent places.sticky key (absent_from_sticky key places absent)) in
-      λ i. record { shelf = first i; sticky = same i; limit = limit i; share = share i }
+      λ i. record { shelf = first i; sticky = sticky i; limit = limit i; share = share i }
 
   -- a place that moves to the other side
   pub placed-moved_sticky : (key : List ℕ) (x : X) (places new : Places X) → new.shelf ≡ others key places.shelf → new.sticky ≡ finite.insert places.sticky key x → new.limit ≡ places.limit → new.share ≡ places.share → new ≡ placed true key x places

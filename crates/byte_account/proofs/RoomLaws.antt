@@ -53,6 +53,23 @@ module _ {X : Type 0} (weigh : List ℕ → X → ℕ) where
       ∙ ap (λ n. nat_le (added_by sticky_extra - (places.share - n)) 0) (sym shared.sum)
       ∙ same_test (added_by sticky_extra - (places.share - sticky_total)) 0 (added_by sticky_extra) (places.share - sticky_total) (λ h. omega arith) (λ h. omega arith)
 
+-- what was searched for is room
+module _ {X : Type 0} (weigh : List ℕ → X → ℕ) (places now : Places X) (total sticky_total : ℕ) (key : List ℕ) (extra sticky_extra : ℤ) (more sticky_more : ℕ) (accounted : IsAccounted weigh places total) (shared : IsWithinShare weigh places sticky_total) (same : places ≡ now)
+    (more_is : more ≡ added_by extra) (sticky_more_is : sticky_more ≡ added_by sticky_extra) where
+  pub evictions_past_share : places.share - sticky_total < sticky_more → None ≡ option_map length (room weigh now key extra sticky_extra)
+  evictions_past_share past =
+      let broken : share_fits weigh now sticky_extra ≡ false =
+      share_fits-by_spare weigh places now sticky_total sticky_extra shared same ∙ ap (λ n. nat_le n (places.share - sticky_total)) (sym sticky_more_is) ∙ lt-leb-false (places.share - sticky_total) sticky_more past in
+      sym (ap (λ b. option_map length (cond b (least_eviction weigh now key extra) None)) broken)
+
+  pub evictions_by : sticky_more ≤ places.share - sticky_total → (need : ℕ) → need ≡ more - (places.limit - total) → (found : Option ℕ) → found ≡ option_map length (shortest_suffix (is_enough weigh need) (others key places.shelf))
+      → found ≡ option_map length (room weigh now key extra sticky_extra)
+  evictions_by within need need_is found found_is =
+      let kept : share_fits weigh now sticky_extra ≡ true =
+      share_fits-by_spare weigh places now sticky_total sticky_extra shared same ∙ ap (λ n. nat_le n (places.share - sticky_total)) (sym sticky_more_is) ∙ le-leb sticky_more (places.share - sticky_total) within in
+      least_eviction-from_need weigh places now total key extra need found accounted same (need_is ∙ ap (λ n. n - (places.limit - total)) more_is) found_is
+      ∙ sym (ap (λ b. option_map length (cond b (least_eviction weigh now key extra) None)) kept)
+
 fits_from_count : {A : Type 0} (n : ℕ) (suffix : Option (List A)) → Some n ≡ option_map length suffix → Fits n ≡ room_answer suffix
 fits_from_count n None h = absurd (cc)
 fits_from_count n (Some suffix) h = ap Fits (let same : n ≡ length suffix = cc in same)
@@ -60,17 +77,6 @@ fits_from_count n (Some suffix) h = ap Fits (let same : n ≡ length suffix = cc
 nothing_from_count : {A : Type 0} (suffix : Option (List A)) → None ≡ option_map (length {A = A}) suffix → Nothing ≡ room_answer suffix
 nothing_from_count None h = refl
 nothing_from_count (Some suffix) h = absurd (cc)
-
--- room, by the share and the least eviction
-module _ {X : Type 0} (weigh : List ℕ → X → ℕ) (places : Places X) (key : List ℕ) (extra sticky_extra : ℤ) where
-  pub room_past_share : share_fits weigh places sticky_extra ≡ false → Nothing ≡ room_answer (room weigh places key extra sticky_extra)
-  room_past_share broken = sym (ap (λ b. room_answer (cond b (least_eviction weigh places key extra) None)) broken)
-
-  pub room_fits_by : (n : ℕ) → share_fits weigh places sticky_extra ≡ true → Some n ≡ option_map length (least_eviction weigh places key extra) → Fits n ≡ room_answer (room weigh places key extra sticky_extra)
-  room_fits_by n kept h = fits_from_count n (least_eviction weigh places key extra) h ∙ sym (ap (λ b. room_answer (cond b (least_eviction weigh places key extra) None)) kept)
-
-  pub room_nothing_by : share_fits weigh places sticky_extra ≡ true → None ≡ option_map length (least_eviction weigh places key extra) → Nothing ≡ room_answer (room weigh places key extra sticky_extra)
-  room_nothing_by kept h = nothing_from_count (least_eviction weigh places key extra) h ∙ sym (ap (λ b. room_answer (cond b (least_eviction weigh places key extra) None)) kept)
 
 -- The shortest suffix that is enough.
 
@@ -181,12 +187,21 @@ fits_nothing_added limit total (pos extra) within below = le-leb (total + extra)
 fits_nothing_added limit total (negsuc less) within below = le-leb total (limit + 0 + suc less) (omega arith)
 
 -- the clauses, at the answer that was given
+module _ {X : Type 0} (weigh : List ℕ → X → ℕ) (places : Places X) (key : List ℕ) (extra sticky_extra : ℤ) where
+  pub fits_answer : (n : ℕ) → Some n ≡ option_map length (room weigh places key extra sticky_extra) → Fits n ≡ room_answer (room weigh places key extra sticky_extra)
+  fits_answer n = fits_from_count n (room weigh places key extra sticky_extra)
 
-pub least_answer : {X : Type 0} (weigh : List ℕ → X → ℕ) (places : Places X) (key : List ℕ) (extra sticky_extra : ℤ) (answer : Room) → answer ≡ room_answer (room weigh places key extra sticky_extra) → IsLeastEviction weigh places key extra sticky_extra answer
-least_answer weigh places key extra sticky_extra answer is = subst (IsLeastEviction weigh places key extra sticky_extra) (sym is) (IsLeastEviction-room weigh places key extra sticky_extra)
+  pub nothing_answer : None ≡ option_map length (room weigh places key extra sticky_extra) → Nothing ≡ room_answer (room weigh places key extra sticky_extra)
+  nothing_answer = nothing_from_count (room weigh places key extra sticky_extra)
 
-pub nothing_evicted : {X : Type 0} (weigh : List ℕ → X → ℕ) (places now : Places X) (total : ℕ) (key : List ℕ) (extra : ℤ) (answer : Option ℕ) → IsAccounted weigh places total → places ≡ now → answer ≡ option_map length (least_eviction weigh now key extra) → extra ≤ℤ pos 0 → answer ≡ Some 0
-nothing_evicted weigh places now total key extra answer accounted same is below =
-    let within : total_of weigh places ≤ places.limit = subst (λ n. n ≤ places.limit) accounted.sum accounted.within in
-    is ∙ ap (λ p. option_map length (least_eviction weigh p key extra)) (sym same)
-    ∙ ap (option_map length) (least_eviction-nothing_added weigh places key extra (fits_nothing_added places.limit (total_of weigh places) extra within below))
+  pub least_answer : (answer : Room) → answer ≡ room_answer (room weigh places key extra sticky_extra) → IsLeastEviction weigh places key extra sticky_extra answer
+  least_answer answer is = subst (IsLeastEviction weigh places key extra sticky_extra) (sym is) (IsLeastEviction-room weigh places key extra sticky_extra)
+
+  none_or_nothing : (b : Bool) → room_answer {A = List ℕ × X} (cond b (Some []) None) ≡ cond b (Fits 0) Nothing
+  none_or_nothing true = refl
+  none_or_nothing false = refl
+
+  pub nothing_evicted : (answer : Room) → total_of weigh places ≤ places.limit → answer ≡ room_answer (room weigh places key extra sticky_extra) → extra ≤ℤ pos 0 → answer ≡ cond (share_fits weigh places sticky_extra) (Fits 0) Nothing
+  nothing_evicted answer within is below =
+      is ∙ ap room_answer (room-nothing_added weigh places key extra sticky_extra (fits_nothing_added places.limit (total_of weigh places) extra within below))
+      ∙ none_or_nothing (share_fits weigh places sticky_extra)

@@ -7,9 +7,9 @@ use Rattle.std.specs.FinMap as finite
 use Rattle.arc_core.specs.Places.{Places, HasEachKeyOnce, empty_places, found, placed, refilled, without, weight_of, sticky_total_of}
 use Rattle.arc_core.specs.Room.{share_fits}
 use Rattle.byte_account.specs.Accounting.{IsWithinShare, HasShareFor}
-use Rattle.byte_account.specs.ShelfWords.{weight_at}
+use Rattle.byte_account.specs.ShelfWords.{weight_at, listed_at, stuck_at}
 use Rattle.byte_account.specs.Weight.{weight_under}
-use Rattle.byte_account.proofs.PlacesLaws.{absent_from_sticky, found-shelf, not_on_shelf}
+use Rattle.byte_account.proofs.PlacesLaws.{absent_from_sticky, found-shelf, not_on_shelf, placed-new}
 use Rattle.byte_account.proofs.StickySums.{weight-insert_new, weight-insert, weight-remove, remove-absent}
 use Rattle.byte_account.proofs.AccountingLaws.{weight-empty}
 
@@ -160,12 +160,19 @@ module _ {X : Type 0} (weigh : List ℕ → X → ℕ) where
         (omega (arith, part_is, sticky_total-refilled key x places, sticky_under-none key places once none)) laid_room
 
   -- a new place that weighs nothing, told by its parts
-  pub IsWithinShare-new_sticky : (key : List ℕ) (x : X) (places new : Places X) (sticky_total : ℕ) → IsWithinShare weigh places sticky_total → found key places ≡ None → weigh key x ≡ 0
-      → new.sticky ≡ finite.insert places.sticky key x → new.share ≡ places.share → IsWithinShare weigh new sticky_total
-  IsWithinShare-new_sticky key x places new sticky_total shared absent hollow sticky share =
-      let before : sticky_under key places ≡ 0 = ap (weight_under weigh key) (absent_from_sticky key places absent) in
-      let same : sticky_total_of weigh new ≡ sticky_total_of weigh (placed true key x places) = ap (λ m. weight_of weigh (finite.entries m)) sticky in
-      IsWithinShare-same places new sticky_total shared share (omega (arith, same, sticky_total-placed key x places))
+  reserved_by : (sticky : Bool) (key : List ℕ) (x : X) (places : Places X) → finite.get places.sticky key ≡ None → weigh key x ≡ 0 → sticky_total_of weigh (placed sticky key x places) ≡ sticky_total_of weigh places
+  reserved_by true key x places absent hollow =
+      let before : sticky_under key places ≡ 0 = ap (weight_under weigh key) absent in
+      omega (arith, sticky_total-placed key x places)
+  reserved_by false key x places absent hollow =
+      let before : sticky_under key places ≡ 0 = ap (weight_under weigh key) absent in
+      omega (arith, sticky_total-listed key x places)
+
+  pub IsWithinShare-new : (sticky : Bool) (key : List ℕ) (x : X) (places new : Places X) (sticky_total : ℕ) → IsWithinShare weigh places sticky_total → found key places ≡ None → weigh key x ≡ 0 → new.shelf ≡ listed_at sticky key x places.shelf
+      → new.sticky ≡ stuck_at sticky key x places.sticky → new.limit ≡ places.limit → new.share ≡ places.share → IsWithinShare weigh new sticky_total
+  IsWithinShare-new sticky key x places new sticky_total shared absent hollow shelf table limit share =
+      IsWithinShare-same places new sticky_total shared share
+      (ap (sticky_total_of weigh) (placed-new sticky key x places new absent shelf table limit share) ∙ reserved_by sticky key x places (absent_from_sticky key places absent) hollow)
 
   -- a place that changes sides, told by its parts
   pub IsWithinShare-stuck : (key : List ℕ) (x : X) (places now new : Places X) (sticky_total more : ℕ) → IsWithinShare weigh places sticky_total → HasEachKeyOnce places → lookup (bytes_eq key) places.shelf ≡ Some x

@@ -121,6 +121,14 @@ module _ {X : Type 0} (key : List ℕ) where
   refilled-refilled h x places =
       λ i. record { shelf = set-twice h x places.shelf i; sticky = twice_by places.sticky h x (finite.get places.sticky key) refl i; limit = places.limit; share = places.share }
 
+  contains_by : (x : X) (m : FinMap (slice_cmp nat_cmp) X) (o : Option X) → finite.get m key ≡ o → finite.contains_key (cond (is_some o) (finite.insert m key x) m) key ≡ is_some o
+  contains_by x m None e = ap is_some e
+  contains_by x m (Some y) e = insert_has m x
+
+  -- and stays on its side
+  pub contains-refilled : (x : X) (places : Places X) → finite.contains_key (refilled key x places).sticky key ≡ finite.contains_key places.sticky key
+  contains-refilled x places = contains_by x places.sticky (finite.get places.sticky key) refl
+
   -- an item put on the side where the key has its place keeps that place
   pub placed-held : (sticky : Bool) (old x : X) (places : Places X) → HasEachKeyOnce places → on_side sticky key places ≡ Some old → placed sticky key x places ≡ refilled key x places
   placed-held true old x places once held =

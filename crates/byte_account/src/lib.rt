@@ -6,16 +6,18 @@
 //! - `shelf`: the shelf itself, over its two sides
 //! - `recency_list`: the side of the items that may be evicted, most recently used first
 //! - `sticky_table`: the side of the sticky items
-//! - `room`: the answer on room
+//! - `room`, `put`: the answers on room and on putting an item
 //! - `weighs`: what the shelf asks of an item
 #![tactic(auto)]
 
+mod put;
 mod recency_list;
 mod room;
 mod shelf;
 mod sticky_table;
 mod weighs;
 
+pub use put::Put;
 pub use room::Room;
 pub use shelf::Shelf;
 pub use weighs::Weighs;

@@ -1,21 +1,23 @@
 //! The shelf: items under their keys, their bytes accounted, and room found by the least eviction.
-ghost use Rattle.std.specs.Prelude.{◌≡◌, ◌+◌, ◌≤◌, ◌≤ℤ◌, pos, not, bytes_eq, Option, Some, None, length, option_map, option_copied, if◌then◌else◌, IfOk, OnOk, OnErr, IsSome, is_some};
+ghost use Rattle.std.specs.Prelude.{◌≡◌, ◌+◌, ◌≤◌, ◌≤ℤ◌, ◌∷◌, ℤ, pos, not, bytes_eq, Option, Some, None, length, option_map, option_copied, if◌then◌else◌, IfOk, OnOk, OnErr, IsSome, is_some};
 ghost use Rattle.std.specs.Option.{option_or, option_flatten};
 ghost use Rattle.std.specs.List.{IsDistinct};
 ghost use Rattle.std.specs.Map.{keys_of, lookup, set_value};
 ghost use Rattle.std.specs.FinMap as finite;
 ghost use Rattle.arc_core.specs.Places.{Places, HasEachKeyOnce, empty_places, found, others, count_of, total_of, sticky_total_of, touched, placed, refilled, without};
-ghost use Rattle.arc_core.specs.Room.{room, share_fits, least_eviction, evicted};
+ghost use Rattle.arc_core.specs.Room.{room, share_fits, evicted};
 ghost use Rattle.byte_account.specs.Accounting.{HasShareFor};
 ghost use Rattle.byte_account.specs.LeastEviction.{IsLeastEviction};
-ghost use Rattle.byte_account.specs.ShelfWords.{added_by, item_at, weight_at, on_side, restuck, cancelled, room_answer};
+ghost use Rattle.byte_account.specs.Putting.{Puts, room_for};
+ghost use Rattle.byte_account.specs.ShelfWords.{added_by, item_at, weight_at, IsHeld, listed_at, stuck_at, on_side, restuck, cancelled, room_answer};
 ghost use Rattle.byte_account.specs.Weight.{place_weight};
 
 use crate::Weighs;
-use crate::recency_list::RecencyList;
+use crate::put::Put;
+use crate::recency_list::{RecencyList, weigh_place};
 use crate::room::Room;
 use crate::sticky_table::StickyTable;
-use arc_core::{Key, NoMemory};
+use arc_core::{Key, KeyRef, NoMemory};
 use std::alloc::Global;
 use std::marker::Model;
 
@@ -118,15 +120,8 @@ impl<T: Weighs> Shelf<T> {
         ensures ok { OnOk result (self.new ≡ placed sticky key None self.old) }
         ensures err { OnErr result (self.new ≡ self.old) }
     {
-        let key = key.into_bytes();
-        if sticky {
-            self.sticky.insert(key, None)?;
-            return Ok(());
-        }
-        let Err(_) = self.list.put_first(key, None) else {
-            return Ok(());
-        };
-        Err(NoMemory)
+        make_place(&mut self.list, &mut self.sticky, key, None, sticky)?;
+        Ok(())
     }
 
     /// Takes the key's place away if it is hollow. Any other place stays.
@@ -150,31 +145,125 @@ impl<T: Weighs> Shelf<T> {
         ensures least { IsLeastEviction (place_weight T.weigh) self.now key.now extra sticky_extra result }
         ensures nothing_added { extra ≤ℤ pos 0 → result ≡ (if share_fits (place_weight T.weigh) self.now sticky_extra then Room.Fits 0 else Room.Nothing) }
     {
-        if !self.share_fits(sticky_extra) {
-            return Room::Nothing;
-        }
-        match self.least_eviction(key, extra) {
+        match self.evictions_for(key, rise(extra), rise(sticky_extra)) {
             Some(evictions) => Room::Fits(evictions),
             None => Room::Nothing,
         }
     }
 
-    // Whether so many bytes more among the sticky items are within the share.
-    fn share_fits(&self, sticky_extra: i64) -> bool
-        ensures { result ≡ share_fits (place_weight T.weigh) self.now sticky_extra }
+    // The fewest evictions that make room where the total rises by so many bytes and the sticky total by so many, or `None`
+    // where there is no room.
+    fn evictions_for(&self, key: &[u8], more: u64, sticky_more: u64) -> Option<u64>
+        ensures room { (extra sticky_extra : ℤ) → more ≡ added_by extra → sticky_more ≡ added_by sticky_extra
+            → result ≡ option_map length (room (place_weight T.weigh) self.now key.now extra sticky_extra) }
+        ensures within { total_of (place_weight T.weigh) self.now ≤ self.now.limit }
     {
-        let spare = self.share - self.sticky_total;
-        added(sticky_extra) <= spare
+        if sticky_more > self.share - self.sticky_total {
+            return None;
+        }
+        let spare = self.limit - self.total;
+        self.list.fewest_to_free(key, more.saturating_sub(spare))
     }
 
-    // The fewest evictions that keep the limit with `extra` bytes more under the key.
-    fn least_eviction(&self, key: &[u8], extra: i64) -> Option<u64>
-        ensures least { result ≡ option_map length (least_eviction (place_weight T.weigh) self.now key.now extra) }
-        ensures nothing_added { extra ≤ℤ pos 0 → result ≡ Some 0 }
+    /// Puts an item under a key that has no place, which is the condition: among the sticky ones, or in front of the list.
+    /// Room for it is made by the least eviction.
+    ///
+    /// All memory is taken before anything is evicted. `NoMemory` comes for want of memory alone, `NoRoom` exactly where
+    /// there is no room; then nothing has changed. (This server's own rule.)
+    pub fn put_new(&mut self, alloc: Global, key: &KeyRef<'_>, item: T, sticky: bool) -> Put
+        requires { found key.now self.old ≡ None }
+        ensures { Puts (place_weight T.weigh) sticky key.now (Some item) self.old self.new result }
     {
-        let spare = self.limit - self.total;
-        let need = added(extra).saturating_sub(spare);
-        self.list.fewest_to_free(key, need)
+        let name = key.bytes();
+        let weight = item.weight(name);
+        let sticky_weight = sticky_part(weight, sticky);
+        let Some(evictions) = self.evictions_for(name, weight, sticky_weight) else {
+            return Put::NoRoom;
+        };
+        let Ok(key) = Key::copy(alloc, KeyRef::of(name)) else {
+            return Put::NoMemory;
+        };
+        let made = make_place(&mut self.list, &mut self.sticky, key, Some(item), sticky);
+        let Ok(()) = made else {
+            return Put::NoMemory;
+        };
+        let freed = self.list.pop_many(evictions as usize);
+        self.total = self.total - freed + weight;
+        self.sticky_total += sticky_weight;
+        Put::Done
+    }
+
+    /// Puts an item in the place that the key has, which is the condition, and moves the place to the other side where it
+    /// is not on the one that is named. Room for it is made by the least eviction.
+    ///
+    /// All memory is taken before anything is evicted, and none where the place stays on its side. `NoMemory` comes for
+    /// want of memory alone, `NoRoom` exactly where there is no room; then nothing has changed. (This server's own rule.)
+    pub fn replace(&mut self, key: &[u8], item: T, sticky: bool) -> Put
+        requires { IsSome (found key.now self.old) }
+        ensures { Puts (place_weight T.weigh) sticky key.now (Some item) self.old self.new result }
+    {
+        let weight = item.weight(key);
+        let held = self.held(key);
+        let more = weight.saturating_sub(held.weight);
+        let sticky_more = sticky_part(weight, sticky).saturating_sub(sticky_part(held.weight, held.sticky));
+        let Some(evictions) = self.evictions_for(key, more, sticky_more) else {
+            return Put::NoRoom;
+        };
+        if held.sticky == sticky {
+            self.put_there(key, item, held, evictions);
+            return Put::Done;
+        }
+        match self.put_across(key, item, held, evictions) {
+            Ok(()) => Put::Done,
+            Err(NoMemory) => Put::NoMemory,
+        }
+    }
+
+    // Puts an item in the key's place on the side where that is, behind so many evictions, which make room for it.
+    fn put_there(&mut self, key: &[u8], item: T, held: Held, evictions: u64)
+        requires held { IsHeld (place_weight T.weigh) key.now self.old held }
+        requires room { Some evictions ≡ option_map length (room_for (place_weight T.weigh) held.sticky key.now (Some item) self.old) }
+        ensures { self.new ≡ placed held.sticky key.now (Some item) (evicted key.now evictions self.old) }
+    {
+        let weight = item.weight(key);
+        let freed = self.list.evict(key, evictions as usize);
+        refill(&mut self.list, &mut self.sticky, key, Some(item));
+        self.total = self.total - freed - held.weight + weight;
+        self.sticky_total = self.sticky_total - sticky_part(held.weight, held.sticky) + sticky_part(weight, held.sticky);
+    }
+
+    // Takes the key's place away and puts an item in a new one on the other side, behind so many evictions, which make room
+    // for it. A refusal changes nothing.
+    fn put_across(&mut self, key: &[u8], item: T, held: Held, evictions: u64) -> Result<(), NoMemory>
+        requires held { IsHeld (place_weight T.weigh) key.now self.old held }
+        requires room { Some evictions ≡ option_map length (room_for (place_weight T.weigh) (not held.sticky) key.now (Some item) self.old) }
+        ensures ok { OnOk result (self.new ≡ placed (not held.sticky) key.now (Some item) (evicted key.now evictions self.old)) }
+        ensures err { OnErr result (self.new ≡ self.old) }
+    {
+        let weight = item.weight(key);
+        change_side(&mut self.list, &mut self.sticky, key, Some(item), !held.sticky)?;
+        let freed = self.list.pop_many(evictions as usize);
+        self.total = self.total - freed - held.weight + weight;
+        self.sticky_total = self.sticky_total - sticky_part(held.weight, held.sticky) + sticky_part(weight, !held.sticky);
+        Ok(())
+    }
+
+    // What is known of the key's place.
+    fn held(&self, key: &[u8]) -> Held
+        requires { IsSome (found key.now self.now) }
+        ensures held { IsHeld (place_weight T.weigh) key.now self.now result }
+        ensures once { HasEachKeyOnce self.now }
+    {
+        match self.list.get(key) {
+            Some(place) => Held {
+                weight: weigh_place(key, place),
+                sticky: false,
+            },
+            None => Held {
+                weight: self.sticky.weight(key),
+                sticky: true,
+            },
+        }
     }
 
     /// Evicts the `n` least recently used places but the key's, of which there have to be so many. The key's place and
@@ -270,8 +359,8 @@ impl<T: Weighs> Shelf<T> {
     }
 }
 
-// What `extra` adds to the total: nothing where it is negative.
-fn added(extra: i64) -> u64
+// What `extra` adds to a total: nothing where it is negative.
+fn rise(extra: i64) -> u64
     ensures { result ≡ added_by extra }
 {
     if extra > 0 { extra as u64 } else { 0 }
@@ -290,6 +379,61 @@ fn sticky_part(weight: u64, sticky: bool) -> u64
     ensures { result ≡ (if sticky then weight else 0) }
 {
     if sticky { weight } else { 0 }
+}
+
+// What a key's place weighs, and on which side it is.
+#[derive(Clone, Copy)]
+struct Held {
+    weight: u64,
+    sticky: bool,
+}
+
+// Makes a place with this in it for a key that has none. A refusal changes nothing.
+fn make_place<T: Weighs>(
+    list: &mut RecencyList<T>,
+    table: &mut StickyTable<T>,
+    key: Key,
+    place: Option<T>,
+    sticky: bool,
+) -> Result<(), NoMemory>
+    requires list { lookup (bytes_eq key) list.old ≡ None }
+    requires table { finite.get table.old key ≡ None }
+    ensures list { OnOk result (list.new ≡ listed_at sticky key place list.old) }
+    ensures table { OnOk result (table.new ≡ stuck_at sticky key place table.old) }
+    ensures err { OnErr result ((list.new ≡ list.old) × (table.new ≡ table.old)) }
+{
+    let key = key.into_bytes();
+    if sticky {
+        table.insert(key, place)?;
+        return Ok(());
+    }
+    let Err(_) = list.put_first(key, place) else {
+        return Ok(());
+    };
+    Err(NoMemory)
+}
+
+// Takes the key's place away and makes one on the other side, with this in it. A refusal changes nothing.
+fn change_side<T: Weighs>(
+    list: &mut RecencyList<T>,
+    table: &mut StickyTable<T>,
+    key: &[u8],
+    place: Option<T>,
+    sticky: bool,
+) -> Result<(), NoMemory>
+    requires apart { IsDistinct bytes_eq (keys_of list.old) }
+    requires list { is_some (lookup (bytes_eq key.now) list.old) ≡ sticky }
+    requires table { finite.contains_key table.old key.now ≡ not sticky }
+    ensures list { OnOk result (list.new ≡ listed_at sticky key.now place list.old) }
+    ensures table { OnOk result (table.new ≡ stuck_at sticky key.now place table.old) }
+    ensures err { OnErr result ((list.new ≡ list.old) × (table.new ≡ table.old)) }
+{
+    if sticky {
+        table.replace_from(list, key, place)?;
+    } else {
+        table.replace_onto(list, key, place)?;
+    }
+    Ok(())
 }
 
 // Puts something else into the key's place, on whichever side. Answers what was there.

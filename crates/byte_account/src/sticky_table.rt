@@ -1,5 +1,5 @@
 //! The table of the sticky places, which are never evicted.
-ghost use Rattle.std.specs.Prelude.{◌≡◌, ◌<◌, ◌^◌, List, ℕ, Option, Some, None, bytes_eq, option_map, option_copied, if◌then◌else◌, IfOk, IfSome, OnOk, OnErr, ◌∷◌};
+ghost use Rattle.std.specs.Prelude.{◌≡◌, ◌<◌, ◌^◌, List, ℕ, Option, Some, None, bytes_eq, option_map, option_copied, if◌then◌else◌, IfOk, IfSome, OnOk, OnErr, IsSome, ◌∷◌};
 ghost use Rattle.std.specs.Ordering.{nat_cmp};
 ghost use Rattle.std.specs.List.{IsDistinct};
 ghost use Rattle.std.specs.Map.{keys_of, lookup, set_value};
@@ -62,6 +62,16 @@ impl<T: Weighs> StickyTable<T> {
         self.table.get(key)
     }
 
+    /// What the key's place weighs; 0 where it has none.
+    pub(crate) fn weight(&self, key: &[u8]) -> u64
+        ensures { result ≡ weight_under (place_weight T.weigh) key.now (finite.get self.now key.now) }
+    {
+        match self.get(key) {
+            Some(place) => weigh_place(key, place),
+            None => 0,
+        }
+    }
+
     /// Puts something else into the key's place, where it has one, and hands out what stood there.
     pub(crate) fn replace(&mut self, key: &[u8], place: Option<T>) -> Option<Option<T>>
         ensures old { result ≡ finite.get self.old key.now }
@@ -111,7 +121,7 @@ impl<T: Weighs> StickyTable<T> {
         let Some((key, place)) = list.remove(key) else {
             return Ok(0);
         };
-        let weight = weigh_place(&key, &place);
+        let weight = weigh_place(key.as_slice(), &place);
         insert_spare(&mut self.table, key, place);
         Ok(weight)
     }
@@ -130,11 +140,60 @@ impl<T: Weighs> StickyTable<T> {
         let Some((key, place)) = self.table.remove_entry(key) else {
             return Ok(0);
         };
-        let weight = weigh_place(&key, &place);
+        let weight = weigh_place(key.as_slice(), &place);
         match list.put_first(key, place) {
             Ok(()) => Ok(weight),
             Err((key, place)) => {
                 insert_spare(&mut self.table, key, place);
+                Err(NoMemory)
+            }
+        }
+    }
+
+    /// Takes the key's place away from the list, where it has one, and makes one here with this in it. A refusal changes
+    /// neither.
+    pub(crate) fn replace_from(
+        &mut self,
+        list: &mut RecencyList<T>,
+        key: &[u8],
+        place: Option<T>,
+    ) -> Result<(), NoMemory>
+        requires { IsDistinct bytes_eq (keys_of list.old) }
+        ensures list { OnOk result (list.new ≡ others key.now list.old) }
+        ensures table { OnOk result (IsSome (lookup (bytes_eq key.now) list.old) → self.new ≡ finite.insert self.old key.now place) }
+        ensures err { OnErr result ((list.new ≡ list.old) × (self.new ≡ self.old)) }
+    {
+        self.table.reserve(1)?;
+        let Some((key, _)) = list.remove(key) else {
+            return Ok(());
+        };
+        insert_spare(&mut self.table, key, place);
+        Ok(())
+    }
+
+    /// Takes the key's place away, where it has one, and makes one in front of the list with this in it. Hands out what
+    /// stood there. A refusal changes neither.
+    pub(crate) fn replace_onto(
+        &mut self,
+        list: &mut RecencyList<T>,
+        key: &[u8],
+        place: Option<T>,
+    ) -> Result<Option<T>, NoMemory>
+        requires { lookup (bytes_eq key.now) list.old ≡ None }
+        ensures list { OnOk result (IsSome (finite.get self.old key.now) → list.new ≡ (key.now, place) ∷ list.old) }
+        ensures table { OnOk result (self.new ≡ finite.remove self.old key.now) }
+        ensures err { OnErr result ((list.new ≡ list.old) × (self.new ≡ self.old)) }
+    {
+        // So that the place can come back where the list is refused memory.
+        self.table.reserve(1)?;
+        let Some((key, old)) = self.table.remove_entry(key) else {
+            return Ok(None);
+        };
+        match list.put_first(key, place) {
+            Ok(()) => Ok(old),
+            Err((key, refused)) => {
+                mem::drop(refused);
+                insert_spare(&mut self.table, key, old);
                 Err(NoMemory)
             }
         }

@@ -32,7 +32,7 @@ item = key_value 5 expiry.Never 1 (codes "abc")
 
 -- the state behind the `set`
 abbrev pub held : CacheState
-held = state_at 0 1 (only a item limit)
+held = state_at 0 1 (only a item limit limit)
 
 abbrev pub row : ValueRow
 row = record { key = a; flags = 5; unique = None; value = codes "abc" }
@@ -57,10 +57,10 @@ unfolding command_of get_row keys_up_to
 get_is_spelled = refl
 
 -- the item is stored, with the first cas unique
-pub set_is_stored : step (opening_state limit) 0 set_a ≡ (held, reply.Word word.Stored)
+pub set_is_stored : step (opening_state limit limit) 0 set_a ≡ (held, reply.Word word.Stored)
 set_is_stored =
-    ap (λ start. ended start (a ∷ []) (carried_out start (plan_of start set_a.act))) (starts a 0 limit)
-    ∙ put_first a item limit 0 1 (reply.Word word.Stored) (omega arith) refl
+    ap (λ start. ended start (a ∷ []) (carried_out start (plan_of start set_a.act))) (starts a 0 limit limit)
+    ∙ put_first a item limit limit 0 1 (reply.Word word.Stored) (omega arith) refl
 
 -- it is found, and nothing has changed
 pub get_finds_it : step held 0 get_a ≡ (held, reply.Values (row ∷ []))
@@ -68,7 +68,7 @@ get_finds_it = refl
 
 -- 64 bytes for the item, one for its key and three for its value are accounted
 pub set_is_accounted : accounted held ≡ 68
-set_is_accounted = total_first a item limit
+set_is_accounted = total_first a item limit limit
 
 -- what the client gets
 pub texts_of_row : reply_text (reply.Word word.Stored) ++ reply_text (reply.Values (row ∷ []))

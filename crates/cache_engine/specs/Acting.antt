@@ -14,8 +14,8 @@ abbrev pub start_at : CacheState → ℕ → List ℕ → CacheState
 start_at old now key = started old now (key ∷ [])
 
 -- The word is answered by the machine's rules, and the item under the key left as it is.
-abbrev pub Tells : CacheState → ℕ → List ℕ → Word → Reply → CacheState → Type 0
-Tells old now key word answer new = ended (start_at old now key) (key ∷ []) (carried_out (start_at old now key) (tell (reply.Word word))) ≡ (new, answer)
+abbrev pub Answers : CacheState → ℕ → List ℕ → Word → Reply → CacheState → Type 0
+Answers old now key word answer new = ended (start_at old now key) (key ∷ []) (carried_out (start_at old now key) (tell (reply.Word word))) ≡ (new, answer)
 
 -- The plan for this key is carried out by the machine's rules, or memory was refused and nothing has changed.
 abbrev pub Finishes : CacheState → ℕ → List ℕ → Plan → Reply → CacheState → Type 0

@@ -16,6 +16,7 @@ returns-in_default-clause-weight g c =
 pub returns-in-Ok-clause-weight : goal.returns-in-Ok-clause-weight
 returns-in-Ok-clause-weight g c =
     c.weigh_place-weight.ensures
+    ∙ ap (λ k. place_weight g.T.Weighs.weigh k c.in-Some.place) c.as_slice.ensures.value
     ∙ ap (λ k. place_weight g.T.Weighs.weigh k c.in-Some.place) (sym (same_key c.args.key.now c.in-Some.key.items c.in-Some.ensures.same_key))
     ∙ ap (weight_under (place_weight g.T.Weighs.weigh) c.args.key.now)
     (c.in-Some.ensures.value
