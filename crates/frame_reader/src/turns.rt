@@ -57,7 +57,7 @@ pub(crate) fn take_line<G: Heads>(
 }
 
 // The place of the first LF.
-fn place_of_lf(piece: &[u8]) -> Option<usize>
+pub(crate) fn place_of_lf(piece: &[u8]) -> Option<usize>
     ensures { MatchOption result (HasNoLf piece.now)
         (λ place. (place < length piece.now) × HasNoLf (take place piece.now)
         × (take (place + 1) piece.now ≡ take place piece.now ++ 10 ∷ [])) }
