@@ -6,7 +6,7 @@ ghost use Rattle.arc_core.specs.Framing.{IsSpan};
 ghost use Rattle.arc_core.specs.Framing as whole;
 ghost use Rattle.frame_reader.specs.Fronts.{IsFrontLine, IsFrontBlock};
 
-use crate::turns::{LINE_BYTES, place_of_lf, without_cr};
+use crate::turns::{LINE_BYTES, ends_in_cr_lf, place_of_lf, without_cr};
 
 /// The line at the front of a piece, without its LF and less one CR before it, and how many bytes of the piece it
 /// takes with them. It lies in the piece, and nothing is copied.
@@ -32,11 +32,18 @@ pub fn front_block(piece: &[u8], at: usize, len: u32) -> Option<(&[u8], usize)>
     requires { at ≤ length piece.now }
     ensures { IfSome result (λ front. IsFrontBlock piece.now at len front.0.now front.1) }
 {
-    let (block, behind) = piece[at..].split_at_checked(len as usize)?;
-    match behind {
-        [b'\r', b'\n', ..] => Some((block, at + block.len() + 2)),
-        _ => None,
+    let len = len as usize;
+    if piece.len() - at < len + 2 {
+        return None;
     }
+    let end = at + len + 2;
+    let (span, _) = piece.split_at(end);
+    let (_, chunk) = span.split_at(at);
+    if !ends_in_cr_lf(chunk, len) {
+        return None;
+    }
+    let (block, _) = chunk.split_at(len);
+    Some((block, end))
 }
 
 /// A law: a line at the front of a piece that asks for no block is a unit's span, and so is one with the block that it
