@@ -102,8 +102,8 @@ begun_by word name value is =
   where
     by_tests : (limit sticky : Bool)
         → (let limits : Option (OptionName × List ℕ) = Some (option.Limit, drop 8 word) in
-          let stickies : Option (OptionName × List ℕ) = Some (option.Sticky, drop 9 word) in
-          if limit then limits else if sticky then stickies else None) ≡ Some (name, value)
+        let stickies : Option (OptionName × List ℕ) = Some (option.Sticky, drop 9 word) in
+        if limit then limits else if sticky then stickies else None) ≡ Some (name, value)
         → (limit ≡ true → take 8 word ≡ codes "--limit=") → (sticky ≡ true → take 9 word ≡ codes "--sticky=") → word ≡ option_text name ++ 61 ∷ value
     by_tests true sticky e first second =
         let pair = same_pair (option.Limit, drop 8 word) (name, value) e in
@@ -214,17 +214,14 @@ writes_options place before (word ∷ []) limit share is =
 writes_options place before (word ∷ value ∷ more) limit share is =
     word_more place before limit share word (value ∷ more) (λ given. writes_options (place + 1) given (value ∷ more) limit share)
     (λ v m e given reads.
-      let same = tail_same value v more m e in
-      subst (λ ws. Written given ws limit share) (sym same) (writes_options (place + 1 + 1) given more limit share (subst (λ ws. session_job (place + 1 + 1) (reading.Options given) ws ≡ Ok (job.Session limit share)) same reads)))
+    let same = tail_same value v more m e in
+    subst (λ ws. Written given ws limit share) (sym same) (writes_options (place + 1 + 1) given more limit share (subst (λ ws. session_job (place + 1 + 1) (reading.Options given) ws ≡ Ok (job.Session limit share)) same reads)))
     is
 
 pub asked_where_read : (words : List (List ℕ)) (limit share : ℕ) → job_of words ≡ Ok (job.Session limit share) → AsksForSession words limit share
 asked_where_read [] limit share is = absurd cc
 asked_where_read (word ∷ more) limit share is = by_test (bytes_eq word (codes "session")) refl is
   where
-
-
-
     by_test : (test : Bool) → bytes_eq word (codes "session") ≡ test
         → (if test then session_job 1 (reading.Options (record { limit = None; share = None })) more else Err 0) ≡ Ok (job.Session limit share) → AsksForSession (word ∷ more) limit share
     by_test false e is = absurd cc

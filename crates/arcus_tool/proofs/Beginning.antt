@@ -29,8 +29,8 @@ pub ran_nowhere : (opening : CacheState) (before : Outside) (waiting : List ℕ)
     → RanSoFar opening before (stand opening before.coming (sent_more before.out waiting)) before.incoming progress []
 ran_nowhere opening before waiting progress none stands =
     let here : (o : Outgoing) → before.out ≡ o → RanSoFar opening before (stand opening before.coming o) before.incoming progress [] = λ o same.
-        subst (λ x. RanSoFar opening before (stand opening before.coming x) before.incoming progress []) same
-        (record { took = took_nothing before.incoming.left; no_fault = refl; goes = ([], [], went_nowhere (start_of opening before), stands, tt) }) in
+    subst (λ x. RanSoFar opening before (stand opening before.coming x) before.incoming progress []) same
+    (record { took = took_nothing before.incoming.left; no_fault = refl; goes = ([], [], went_nowhere (start_of opening before), stands, tt) }) in
     here (sent_more before.out waiting) (sym (ap (sent_more before.out) none ∙ sent_no_more before.out))
 
 -- memory was refused before any byte was taken

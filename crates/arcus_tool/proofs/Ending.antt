@@ -150,10 +150,10 @@ module _ (opening : CacheState) (before : Outside) (state : CacheState) (coming 
     over_at_quit ended most grew within stops finishes =
         let went = stops.2 in
         over_finished grew stops.0 stops.1 went stops.4 status.Done ended (λ all.
-          let sent = all ∙ went.out in
-          went_over status.Done (sent_more out waiting) out' stops.0 stops.1 went stops.4
-          (inr (record { quits = stops.3; short_tail = omega (arith, stops.5, within); few = few; sent = sent }))
-          (reads, ap (λ o. o.faults) sent, ap (λ o. o.refusals) sent)) finishes
+        let sent = all ∙ went.out in
+        went_over status.Done (sent_more out waiting) out' stops.0 stops.1 went stops.4
+        (inr (record { quits = stops.3; short_tail = omega (arith, stops.5, within); few = few; sent = sent }))
+        (reads, ap (λ o. o.faults) sent, ap (λ o. o.refusals) sent)) finishes
 
     -- the session is over at a line that is too long
     pub over_at_long_line : (ended : Status) (most : ℕ) → Grew before.out.sent out'.sent → most ≤ 16384 → StopsAt IsTooLong (start_of opening before) (stand state coming (sent_more out waiting)) taken most
@@ -161,10 +161,10 @@ module _ (opening : CacheState) (before : Outside) (state : CacheState) (coming 
     over_at_long_line ended most grew within stops finishes =
         let went = stops.2 in
         over_finished grew stops.0 stops.1 went stops.4 status.LineTooLong ended (λ all.
-          let sent = all ∙ went.out in
-          went_over status.LineTooLong (sent_more out waiting) out' stops.0 stops.1 went stops.4
-          (record { too_long = stops.3; short_tail = omega (arith, stops.5, within); few = few; sent = sent })
-          (reads, ap (λ o. o.faults) sent, ap (λ o. o.refusals) sent)) finishes
+        let sent = all ∙ went.out in
+        went_over status.LineTooLong (sent_more out waiting) out' stops.0 stops.1 went stops.4
+        (record { too_long = stops.3; short_tail = omega (arith, stops.5, within); few = few; sent = sent })
+        (reads, ap (λ o. o.faults) sent, ap (λ o. o.refusals) sent)) finishes
 
     module _ (progress : Progress) (goes : GoesOn (start_of opening before) (stand state coming (sent_more out waiting)) taken progress []) (rest : (bytes : List ℕ) → StandsFor line_needs progress bytes → IsRest line_needs bytes) where
       went_here : Went (start_of opening before) (stand state coming (sent_more out waiting)) taken goes.0 goes.1
@@ -183,10 +183,10 @@ module _ (opening : CacheState) (before : Outside) (state : CacheState) (coming 
           → IsOver opening before (stand state coming out') out' incoming ended
       over_at_limit ended grew all finishes =
           over_finished grew goes.0 goes.1 went_here (only_of_none goes.0 goes.4) status.LongInput ended (λ gone.
-            let sent = gone ∙ went_here.out in
-            went_over status.LongInput (sent_more out waiting) out' goes.0 goes.1 went_here (only_of_none goes.0 goes.4)
-            (record { all_taken = all; handled = handled_all; sent = sent })
-            (reads, ap (λ o. o.faults) sent, ap (λ o. o.refusals) sent)) finishes
+          let sent = gone ∙ went_here.out in
+          went_over status.LongInput (sent_more out waiting) out' goes.0 goes.1 went_here (only_of_none goes.0 goes.4)
+          (record { all_taken = all; handled = handled_all; sent = sent })
+          (reads, ap (λ o. o.faults) sent, ap (λ o. o.refusals) sent)) finishes
 
 -- how a session ends where the source has ended, by the bytes that came of an unfinished unit
 ends_at : (before after : Outside) (taken : List ℕ) (units : List Whole) (tail text : List ℕ) → ReadToEnd before after taken → HandledAll units tail → SentWhole before after text
@@ -243,8 +243,8 @@ module _ (opening : CacheState) (before : Outside) (state : CacheState) (coming 
       went_over opening before state coming incoming' taken (ran.took ∙ ap (first_then taken) (sym came.same_left)) (came.same_faults ∙ ran.no_fault)
       (status_at_end ran.goes.1) (sent_more out waiting) out' ran.goes.0 ran.goes.1 went_upto (only_of_none ran.goes.0 ran.goes.4)
       (ends_at before (outside incoming' out' coming) taken ran.goes.0 ran.goes.1 went_upto.text
-        (record { ended = subst (λ l. IfSome l (λ bytes. bytes ≡ [])) (sym came.same_left) came.ended; no_fault = came.same_faults ∙ ran.no_fault; short = short })
-        handled_upto all_sent)
+      (record { ended = subst (λ l. IfSome l (λ bytes. bytes ≡ [])) (sym came.same_left) came.ended; no_fault = came.same_faults ∙ ran.no_fault; short = short })
+      handled_upto all_sent)
       (counts_at before (outside incoming' out' coming) ran.goes.1 (came.same_faults ∙ ran.no_fault) (ap (λ o. o.faults) all_sent) (ap (λ o. o.refusals) all_sent))
 
 -- a reader that has no unit ready holds an unfinished one

@@ -23,7 +23,7 @@ all_apart = tt
 no_weight : weight_of size_of (finite.entries (finite.empty {X = Item} {R = slice_cmp nat_cmp})) ≡ 0
 no_weight =
     ap (weight_of size_of) (nil_from_length (finite.entries (finite.empty {X = Item} {R = slice_cmp nat_cmp}))
-      (sym (finite.len-entries (finite.empty {X = Item} {R = slice_cmp nat_cmp})) ∙ finite.len-empty (slice_cmp nat_cmp) Item))
+    (sym (finite.len-entries (finite.empty {X = Item} {R = slice_cmp nat_cmp})) ∙ finite.len-empty (slice_cmp nat_cmp) Item))
 
 pub opening_keeps_the_rules : (limit share : ℕ) → IsState (opening_state limit share)
 opening_keeps_the_rules limit share = record {

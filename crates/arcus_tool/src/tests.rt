@@ -25,7 +25,11 @@ fn words_ask_for_a_session(rt: HostRuntime) -> Result<(), Fail> {
         ("session --limit 4096 --sticky=9", 4096, 9),
     ] {
         let words = words_of(rt.alloc(), row)?;
-        assert_eq!(rt; read_words(&words), Ok(Job::Session { limit, share }), "{row}");
+        assert_eq!(rt;
+            read_words(&words),
+            Ok(Job::Session { limit, share }),
+            "{row}"
+        );
     }
     Ok(())
 }

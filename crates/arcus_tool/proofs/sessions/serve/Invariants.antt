@@ -17,9 +17,9 @@ invariant-loop-taken g l =
       between : IsBetweenUnits l.frames;
       ran : (bytes : List ℕ) × (length bytes ≡ l.taken) × RanSoFar (exec.state l.fn.exec)
           (outside (incoming (source.left from.source.now) (source.read_faults from.source.now))
-            (outgoing (sink.sent from.sink.now) (sink.write_faults from.sink.now) (sink.refusals from.sink.now)) (clock.coming l.fn.clock))
+          (outgoing (sink.sent from.sink.now) (sink.write_faults from.sink.now) (sink.refusals from.sink.now)) (clock.coming l.fn.clock))
           (stand (exec.state l.exec) (clock.coming l.clock)
-            (outgoing (then_sent (sink.sent l.link.sink.now) l.link.outbox) (sink.write_faults l.link.sink.now) (sink.refusals l.link.sink.now)))
+          (outgoing (then_sent (sink.sent l.link.sink.now) l.link.outbox) (sink.write_faults l.link.sink.now) (sink.refusals l.link.sink.now)))
           (incoming (source.left l.link.source.now) (source.read_faults l.link.source.now)) l.frames bytes;
     }
 
