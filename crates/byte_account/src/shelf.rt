@@ -205,7 +205,8 @@ impl<T: Weighs> Shelf<T> {
         let weight = item.weight(key);
         let held = self.held(key);
         let more = weight.saturating_sub(held.weight);
-        let sticky_more = sticky_part(weight, sticky).saturating_sub(sticky_part(held.weight, held.sticky));
+        let held_sticky = sticky_part(held.weight, held.sticky);
+        let sticky_more = sticky_part(weight, sticky).saturating_sub(held_sticky);
         let Some(evictions) = self.evictions_for(key, more, sticky_more) else {
             return Put::NoRoom;
         };

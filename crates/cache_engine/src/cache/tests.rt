@@ -105,7 +105,12 @@ fn is_expected(reply: Option<Reply>, expected: Expected) -> bool {
 }
 
 fn opened(alloc: Global, mib: u32) -> Result<Cache, Fail> {
-    let settings = Settings::of_mib(mib).ok_or("a limit")?;
+    shared(alloc, mib, 100)
+}
+
+// A cache of which sticky items may take so many of a hundred parts.
+fn shared(alloc: Global, mib: u32, percent: u32) -> Result<Cache, Fail> {
+    let settings = Settings::of_shares(mib, percent).ok_or("a limit and a share")?;
     Ok(Cache::new(alloc, settings)?)
 }
 

@@ -2,7 +2,7 @@
 
 use super::Asked::{Count, Delete, Fill, FlushAll, Get, Gets, Store, Touch, Version};
 use super::Expected::{Rows, Says};
-use super::{Asked, Script, Expected, execute, is_expected, opened, run};
+use super::{Asked, Expected, Script, execute, is_expected, opened, run, shared};
 use crate::cache::Cache;
 use StoreVerb::{Add, Append, Cas, Prepend, Set};
 use Word::{
@@ -245,6 +245,35 @@ const STICKY: [Eviction; 9] = [
         b"abcd",
     ),
 ];
+
+// Half of a mebibyte, 524,288 bytes, is for sticky items: a takes 500,065 of them, and b what is left. Evicting c, which is
+// not sticky, makes no room there.
+const HALF: Script = &[
+    (0, Fill(Set, b"a", -1, 500_000), Says(Stored)),
+    (0, Fill(Set, b"b", -1, 24_159), Says(OutOfMemory)),
+    (0, Fill(Set, b"b", -1, 24_158), Says(Stored)),
+    (0, Fill(Set, b"c", 0, 0), Says(Stored)),
+    (0, Touch(b"c", -1), Says(OutOfMemory)),
+    (0, Fill(Append, b"b", 0, 1), Says(OutOfMemory)),
+    (0, Touch(b"a", 0), Says(Touched)),
+    (0, Touch(b"c", -1), Says(Touched)),
+];
+
+#[test]
+fn keeps_sticky_items_in_their_share(rt: HostRuntime) -> Result<(), Fail> {
+    let filler = filled(rt.alloc(), 500_000)?;
+    let mut cache = shared(rt.alloc(), 1, 50)?;
+    run(&rt, &mut cache, &filler, HALF);
+    // b and c are sticky now: 24,223 bytes and 65.
+    assert_eq!(rt; (cache.sticky(), cache.accounted()), (24_288, 524_353));
+
+    // With no share no item is sticky.
+    let mut cache = shared(rt.alloc(), 1, 0)?;
+    let reply = execute(&mut cache, &filler, 0, Fill(Set, b"a", -1, 0));
+    assert!(rt; is_expected(reply, Says(OutOfMemory)));
+    assert_eq!(rt; (cache.items(), cache.sticky()), (0, 0));
+    Ok(())
+}
 
 // Items that have expired stay where they are, and count, until they are named or evicted.
 const LATE: [Eviction; 8] = [
