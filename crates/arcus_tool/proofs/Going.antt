@@ -106,6 +106,39 @@ module _ (from middle to : Stand) (taken rest : List ℕ) (progress : Progress) 
   stops_next most (Some unit) stop.LineTooLong short some spans handled = stops_at IsTooLong most unit short (spans went.1 went.3) handled.0 handled.1
   stops_next most (Some unit) stop.Quit short some spans handled = stops_at IsQuitUnit most unit short (spans went.1 went.3) handled.0 handled.1
 
+-- a unit at the front of a piece, where the reader holds nothing
+module _ (from middle to : Stand) (taken piece : List ℕ) (progress : Progress) (n : ℕ) (unit : Whole) (went : GoesOn from middle taken progress piece) (none : went.1 ≡ [])
+    (span : IsSpan line_needs (take n piece) unit) where
+  went_front : Went from middle taken went.0 (take n piece ++ drop n piece)
+  went_front = went_by from middle taken went.0 (went.1 ++ piece) (take n piece ++ drop n piece) (ap (λ t. t ++ piece) none ∙ sym (take-append-drop n piece)) went.2
+
+  -- it was told whole, and the reader still holds nothing
+  pub told_front : HandlesUnit unit middle to (Ok tt) → GoesOn from to taken progress (drop n piece)
+  told_front handled = (
+    went.0 ++ unit ∷ [],
+    [],
+    went_on from middle to taken went.0 unit (take n piece) (drop n piece) went_front span handled.0,
+    subst (StandsFor line_needs progress) none went.3,
+    none_on went.0 unit went.4 (not_final unit handled.1 handled.2),
+  )
+
+  stops_at_front : (Last : Whole → Type 0) (most : ℕ) → length (drop n piece) < most → IsTold (TellsUnit unit) middle to (Ok tt) → Last unit → StopsAt Last from to taken most
+  stops_at_front Last most short told is_last = (
+    went.0 ++ unit ∷ [],
+    drop n piece,
+    went_on from middle to taken went.0 unit (take n piece) (drop n piece) went_front span told,
+    record { front = went.0; unit = unit; parts = refl; is_last = is_last },
+    only_last went.0 unit went.4,
+    short,
+  )
+
+  -- behind it the session goes no further
+  pub stops_front : (most : ℕ) (cause : Stop) → length (drop n piece) < most → HandlesUnit unit middle to (Err cause) → Stops from to taken most cause
+  stops_front most stop.Failed short told = broke_off from middle to taken went.0 unit (take n piece) (drop n piece) went_front span stop.Failed went.4 told
+  stops_front most stop.NoMemory short told = broke_off from middle to taken went.0 unit (take n piece) (drop n piece) went_front span stop.NoMemory went.4 told
+  stops_front most stop.LineTooLong short handled = stops_at_front IsTooLong most short handled.0 handled.1
+  stops_front most stop.Quit short handled = stops_at_front IsQuitUnit most short handled.0 handled.1
+
 -- a unit that is not waited for is whole
 pub not_waiting : (unit : UnitOfBytes) → (unit ≡ unit_of.Wait → ⊥) → whole_of unit ≡ None → ⊥
 not_waiting unit_of.Wait not e = not refl

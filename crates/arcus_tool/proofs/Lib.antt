@@ -9,3 +9,4 @@ pub mod Beginning
 pub mod Completeness
 pub mod Opening
 pub mod Asking
+pub mod Fronts

@@ -38,7 +38,7 @@ cause_since before between after stop.NoMemory f r h = (h.0 ∙ f, subst (λ x. 
 cause_since before between after stop.LineTooLong f r h = h
 cause_since before between after stop.Quit f r h = h
 
-none_of_length : (xs : List ℕ) → length xs ≡ 0 → xs ≡ []
+pub none_of_length : (xs : List ℕ) → length xs ≡ 0 → xs ≡ []
 none_of_length [] e = refl
 none_of_length (x ∷ xs) e = absurd (omega arith)
 

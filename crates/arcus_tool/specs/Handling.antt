@@ -1,12 +1,12 @@
 -- How the units of a session are handled, one after another. The statement on sessions cites `TicksThrough`, `IsOwn`,
 -- `IsTooLong`, `NoneFinal`, `OnlyLastFinal` and `EndsWith`; all else is for the functions within.
-use Rattle.std.specs.Prelude.{◌≡◌, ◌⊎◌, ℕ, ◌<◌, ◌≤◌, ◌^◌, if◌then◌else◌, List, [], ◌∷◌, ◌++◌, length, drop, Option, Some, None, Result, Ok, Err, true}
+use Rattle.std.specs.Prelude.{◌≡◌, ◌⊎◌, ℕ, ◌<◌, ◌≤◌, ◌^◌, if◌then◌else◌, List, [], ◌∷◌, ◌++◌, length, take, drop, Option, Some, None, Result, Ok, Err, true}
 use Rattle.std.specs.List.{AllByRecursion}
 use Rattle.arc_core.specs.declared.outside.Need.TheVariants as need
 use Rattle.arc_core.specs.declared.replies.Word.{Word}
 use Rattle.arc_core.specs.declared.replies.Word.TheVariants as word
 use Rattle.arc_core.specs.Outside.{Ticks, Outgoing, sent_more}
-use Rattle.arc_core.specs.Framing.{Whole, BeginsWith, line_too_long}
+use Rattle.arc_core.specs.Framing.{Whole, BeginsWith, IsSpan, line_too_long}
 use Rattle.arc_core.specs.declared.commands.Head.{Head}
 use Rattle.arc_core.specs.Grammar.{SpellsRequest, IsUnknown, IsBadFormat, IsBadBlock, IsQuit, line_needs, is_silent, request_of}
 use Rattle.arc_core.specs.CacheState.{CacheState}
@@ -181,3 +181,14 @@ TakesAll from to taken most progress (Err cause) = Stops from to taken most caus
 abbrev pub Takes : Stand → Stand → List ℕ → Progress → List ℕ → Result ℕ Stop → Type 0
 Takes from to taken progress piece (Ok count) = GoesOn from to taken progress (drop count piece)
 Takes from to taken progress piece (Err cause) = Stops from to taken (length piece) cause
+
+-- A unit is the front of the piece, so many bytes of it, and was handled so.
+abbrev pub HandlesFront : List ℕ → Stand → Stand → ℕ → Result Prim.Unit Stop → Type 0
+HandlesFront piece from to count result =
+    (unit : Whole) × (0 < count) × (count ≤ length piece) × IsSpan line_needs (take count piece) unit × HandlesUnit unit from to result
+
+-- The unit at the front of the piece was handled, or nothing was done.
+abbrev pub TakesFront : List ℕ → Stand → Stand → Result (Option ℕ) Stop → Type 0
+TakesFront piece from to (Ok (Some count)) = HandlesFront piece from to count (Ok tt)
+TakesFront piece from to (Ok None) = to ≡ from
+TakesFront piece from to (Err cause) = (count : ℕ) × HandlesFront piece from to count (Err cause)

@@ -7,12 +7,12 @@ ghost use Rattle.arc_core.specs.ReplyText.{reply_text, word_line};
 ghost use Rattle.arc_core.specs.SessionText.{sent_for};
 ghost use Rattle.frame_reader.specs.Units.{whole_of};
 ghost use Rattle.arcus_tool.specs.Output.{Sends};
-ghost use Rattle.arcus_tool.specs.Handling.{Stand, stand, IsTold, TellsHead, HasItsBlock, HandlesLine, HandlesUnit, IsBetweenUnits, GoesOn, Takes, TakesAll};
+ghost use Rattle.arcus_tool.specs.Handling.{Stand, stand, IsTold, TellsHead, HasItsBlock, HandlesLine, HandlesUnit, IsBetweenUnits, GoesOn, Takes, TakesAll, TakesFront};
 
 use crate::joined::Gathers;
 use crate::stops::Stop;
-use arc_core::{BlockFault, Clock, Executor, Head, Reply, Word};
-use frame_reader::{Frames, Unit};
+use arc_core::{BlockFault, Clock, Executor, Head, Need, Reply, Word};
+use frame_reader::{Frames, Unit, front_block, front_line, fronts_are_units};
 use line_grammar::{KvHeads, LineFault, read_line};
 use reply_print::{Wrote, write_reply};
 
@@ -160,8 +160,52 @@ fn answer_unit<E: Executor, C: Clock, L: Gathers>(
     }
 }
 
-// Takes bytes from the front of the piece until a unit is whole, and handles that unit. Tells how many were taken.
-fn take_unit<E: Executor, C: Clock, L: Gathers>(
+// Handles the unit at the front of a piece where it lies there whole: a line that spells a request, with its block. Tells
+// how many bytes it has. `None` comes where the reader has to be fed; then nothing was done.
+fn take_front<E: Executor, C: Clock, L: Gathers>(
+    exec: &mut E,
+    clock: &mut C,
+    link: &mut L,
+    piece: &[u8],
+) -> Result<Option<usize>, Stop>
+    ensures front { TakesFront piece.now
+        (stand (E.state exec.old) (C.coming clock.old) (outgoing (L.sent link.old) (L.write_faults link.old) (L.refusals link.old)))
+        (stand (E.state exec.new) (C.coming clock.new) (outgoing (L.sent link.new) (L.write_faults link.new) (L.refusals link.new))) result }
+    ensures incoming { incoming (L.left link.new) (L.read_faults link.new) ≡ incoming (L.left link.old) (L.read_faults link.old) }
+{
+    fronts_are_units();
+    let Some((line, count)) = front_line(piece) else {
+        return Ok(None);
+    };
+    let Ok(head) = read_line(line) else {
+        return Ok(None);
+    };
+    if head.is_quit() {
+        return Ok(None);
+    }
+    match head.need() {
+        Need::Nothing => match execute(exec, clock, link, head, b"") {
+            Ok(()) => Ok(Some(count)),
+            Err(stop) => Err(stop),
+        },
+        Need::Block { len, limit } => {
+            if len > limit {
+                return Ok(None);
+            }
+            let Some((block, end)) = front_block(piece, count, len) else {
+                return Ok(None);
+            };
+            match execute(exec, clock, link, head, block) {
+                Ok(()) => Ok(Some(end)),
+                Err(stop) => Err(stop),
+            }
+        }
+    }
+}
+
+// Feeds the reader from the front of the piece until a unit is whole, and handles that unit. Tells how many bytes were
+// taken.
+fn feed_unit<E: Executor, C: Clock, L: Gathers>(
     frames: &mut Frames<KvHeads>,
     exec: &mut E,
     clock: &mut C,
@@ -191,6 +235,37 @@ fn take_unit<E: Executor, C: Clock, L: Gathers>(
     }
     frames.done();
     Ok(count)
+}
+
+// Takes bytes from the front of the piece until a unit is whole, and handles that unit: where it lies whole in the piece and
+// nothing is held it is read there. Tells how many bytes were taken.
+fn take_unit<E: Executor, C: Clock, L: Gathers>(
+    frames: &mut Frames<KvHeads>,
+    exec: &mut E,
+    clock: &mut C,
+    link: &mut L,
+    piece: &[u8],
+) -> Result<usize, Stop>
+    requires some { 0 < length piece.now }
+    requires at_start { IsBetweenUnits frames.old }
+    ensures count { IfOk result (λ count. (0 < count) × (count ≤ length piece.now)) }
+    ensures at_end { OnOk result (IsBetweenUnits frames.new) }
+    ensures goes { (from : Stand) (taken : List ℕ) → GoesOn from
+        (stand (E.state exec.old) (C.coming clock.old) (outgoing (L.sent link.old) (L.write_faults link.old) (L.refusals link.old)))
+        taken frames.old piece.now
+        → Takes from
+        (stand (E.state exec.new) (C.coming clock.new) (outgoing (L.sent link.new) (L.write_faults link.new) (L.refusals link.new)))
+        taken frames.new piece.now result }
+    ensures incoming { incoming (L.left link.new) (L.read_faults link.new) ≡ incoming (L.left link.old) (L.read_faults link.old) }
+{
+    if frames.held() > 0 {
+        return feed_unit(frames, exec, clock, link, piece);
+    }
+    match take_front(exec, clock, link, piece) {
+        Ok(Some(count)) => Ok(count),
+        Ok(None) => feed_unit(frames, exec, clock, link, piece),
+        Err(stop) => Err(stop),
+    }
 }
 
 /// Takes all bytes of a piece, and handles each unit that gets whole. What was taken of the next unit stays with the
