@@ -1,0 +1,6 @@
+pub mod Totals
+pub mod Histories
+pub mod Keeping
+pub mod Calling
+pub mod Waiting
+pub mod Called

@@ -1,0 +1,5 @@
+pub mod Calls
+pub mod View
+pub mod Rule
+pub mod Moves
+pub mod Seats

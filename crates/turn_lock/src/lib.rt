@@ -1,0 +1,15 @@
+//! The lock under which all workers share one executor, and the proof that there is one history.
+//!
+//! A thread executes a request through its seat. The seat knows the history as far as it has seen it, and its own calls
+//! in it: each call's reply is the one that a single thread would have got at that place of the one history.
+#![tactic(auto)]
+
+mod gate;
+mod lock;
+mod moves;
+mod seats;
+mod steps;
+mod view;
+
+pub use lock::TurnLock;
+pub use seats::Seat;
