@@ -155,7 +155,7 @@ module _ {E : Type 0} (state_of : E → CacheState) where
       omega arith
 
   -- with the words as they were
-  loaded : (s : State E View) (r : R s) (id : ℕ) (v w : View) → get_elem? s.views id ≡ some v → numbers_of w ≡ numbers_of v → w.register ≡ v.register → (homes : List (Option E))
+  pub loaded : (s : State E View) (r : R s) (id : ℕ) (v w : View) → get_elem? s.views id ≡ some v → numbers_of w ≡ numbers_of v → w.register ≡ v.register → (homes : List (Option E))
       → Fits r.opening r.history r.next w.kind w → length (tickets_of w.turn) ≡ length (tickets_of v.turn) → ((t : ℕ) → times t (tickets_of w.turn) ≡ times t (tickets_of v.turn))
       → IsSlot state_of r.current (total (λ u. turns_of u.turn) (set s.views id w)) homes
       → R record { words = set s.words 1 (get_or s.words 1 0); homes = homes; views = set s.views id w }

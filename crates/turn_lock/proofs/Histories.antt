@@ -87,6 +87,13 @@ calls_between n a b c k p q ea ec =
     let none = nothing (calls_of n p.0) (omega (arith, length-append (calls_of n a) (calls_of n p.0), length-append (calls_of n b) (calls_of n q.0))) in
     eb ∙ (ap (λ (l : List Entry). calls_of n a ++ l) none ∙ (append-nil (calls_of n a) ∙ ea))
 
+-- a beginning has no calls of a number where the whole has none
+pub calls_before : (n : ℕ) (a h : List Entry) → Begins a h → calls_of n h ≡ [] → calls_of n a ≡ []
+calls_before n a h p e =
+    let all : calls_of n h ≡ calls_of n a ++ calls_of n p.0 = ap (calls_of n) p.1 ∙ calls-append n a p.0 in
+    let l = ap length all in let z = ap length e in
+    nothing (calls_of n a) (omega (arith, length-append (calls_of n a) (calls_of n p.0)))
+
 -- where a beginning and the whole have the same calls of a number, the rest has none
 pub calls_rest : (n : ℕ) (a rest k : List Entry) → calls_of n a ≡ k → calls_of n (a ++ rest) ≡ k → calls_of n rest ≡ []
 calls_rest n a rest k ea eb =

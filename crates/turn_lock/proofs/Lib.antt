@@ -4,3 +4,4 @@ pub mod Keeping
 pub mod Calling
 pub mod Waiting
 pub mod Called
+pub mod Sharing
