@@ -5,3 +5,4 @@ pub mod Calling
 pub mod Waiting
 pub mod Called
 pub mod Sharing
+pub mod Meeting
