@@ -35,7 +35,7 @@ tickets_one outside = omega arith
 tickets_one (waits k) = omega arith
 tickets_one (served k) = omega arith
 
-tickets_few : (opening : CacheState) (history : List Entry) (next : ℕ) (v : View) (k : Kind) → v.kind ≡ k → Fits opening history next k v → length (tickets_of v.turn) ≤ length (numbers_by k v)
+pub tickets_few : (opening : CacheState) (history : List Entry) (next : ℕ) (v : View) (k : Kind) → v.kind ≡ k → Fits opening history next k v → length (tickets_of v.turn) ≤ length (numbers_by k v)
 tickets_few opening history next v numbered is f = let one = tickets_one v.turn in omega arith
 tickets_few opening history next v copy is f = let none = ap (λ (t : Turn). length (tickets_of t)) f.turn in omega arith
 tickets_few opening history next v spent is f = let none = ap (λ (u : View). length (tickets_of u.turn)) f in omega arith

@@ -6,3 +6,4 @@ pub mod Waiting
 pub mod Called
 pub mod Sharing
 pub mod Meeting
+pub mod Closing

@@ -20,7 +20,7 @@ use Rattle.turn_lock.proofs.Keeping.{as_numbered, of_numbered, numbers_kept, own
 use Rattle.turn_lock.proofs.Calling.{loaded}
 
 -- one number more is given
-once_more : (n t : ℕ) → once_within 0 n t + times t (n ∷ []) ≡ once_within 0 (n + 1) t
+pub once_more : (n t : ℕ) → once_within 0 n t + times t (n ∷ []) ≡ once_within 0 (n + 1) t
 once_more n t = dite (ℕ_discrete n t)
     (λ e. let a = times_yes t n e in let b = within_above 0 n t (omega arith) in let c = within_yes 0 (n + 1) t (omega arith) (omega arith) in omega arith)
     (λ e. let a = times_no t n e in dite (dec_le n t)
@@ -182,7 +182,7 @@ module _ {E : Type 0} (state_of : E → CacheState) where
       let b = map-append (λ (x : ℕ × List Entry). x.0) v.ended (handed_over w.kind w) in
       a ∙ ((λ i. v.number ∷ b i) ∙ (λ i. sym (own_numbers v kind) i ++ sym (handed_numbers w.kind w) i))
 
-  some_and : (o : Option ℕ) (P : ℕ → Type 0) → IsSomeAnd o P → (n : ℕ) × (o ≡ Some n) × P n
+  pub some_and : (o : Option ℕ) (P : ℕ → Type 0) → IsSomeAnd o P → (n : ℕ) × (o ≡ Some n) × P n
   some_and None P h = absurd h
   some_and (Some n) P h = (n, refl, h)
 
