@@ -3,3 +3,4 @@ pub mod View
 pub mod Rule
 pub mod Moves
 pub mod Seats
+pub mod Trials

@@ -11,5 +11,10 @@ mod seats;
 mod steps;
 mod view;
 
+#[cfg(test)]
+mod tests;
+#[cfg(test)]
+mod vacant;
+
 pub use lock::TurnLock;
 pub use seats::Seat;
