@@ -7,3 +7,4 @@ pub mod Called
 pub mod Sharing
 pub mod Meeting
 pub mod Closing
+pub mod Trials

@@ -1,22 +1,23 @@
 //! Threads that share an executor, and seats that are split and joined in each order.
 ghost use Rattle.std.specs.Prelude.{◌≡◌, ◌+◌, ◌-◌, ◌<◌, ◌≤◌};
-ghost use Rattle.turn_lock.specs.Trials.{Stays, HasJoined};
+ghost use Rattle.std.specs.Thread.{IsSync};
+ghost use Rattle.turn_lock.specs.Trials.{Stays, HasJoined, IsFresh};
 
 use crate::vacant::Vacant;
 use crate::{Seat, TurnLock};
 use arc_core::{Act, Answer, Reply, Request, Word};
 use std::alloc::Global;
-use std::sync::Wait;
+use std::sync::{Arc, Wait};
 use std::sync::atomic::AtomicU64;
 use std::sync::atomic::Ordering::SeqCst;
 use std::test::Fail;
 use std::thread::{Threads, join};
 
 // Asks for the version, which takes no memory.
-fn ask<'a, R: Wait>(
+fn ask<R: Wait>(
     rt: &R,
-    lock: &TurnLock<Vacant<'a>>,
-    seat: &mut Seat<Vacant<'a>>,
+    lock: &TurnLock<Vacant>,
+    seat: &mut Seat<Vacant>,
     now: u32,
 ) -> Reply
     requires { seat.old.lock ≡ lock.now }
@@ -29,35 +30,29 @@ fn ask<'a, R: Wait>(
     lock.execute(rt, seat, 0, now, &request)
 }
 
-// What the threads of a test share: where the executor puts each caller's answer, and how often each answer came.
-#[derive(Clone, Copy)]
-struct Desk<'a> {
-    cells: &'a [AtomicU64],
-    answers: &'a [AtomicU64],
-    times: u32,
-}
-
 // Calls, and marks each answer. True where the answers rise.
-fn calls<'a, R: Wait>(
+fn calls<R: Wait>(
     rt: &R,
-    lock: &TurnLock<Vacant<'a>>,
-    mut seat: Seat<Vacant<'a>>,
-    desk: Desk<'a>,
+    lock: &TurnLock<Vacant>,
+    mut seat: Seat<Vacant>,
+    cells: &[AtomicU64],
+    answers: &[AtomicU64],
+    times: u32,
     caller: u32,
-) -> (Seat<Vacant<'a>>, bool)
+) -> (Seat<Vacant>, bool)
     requires { seat.lock ≡ lock.now }
     ensures { Stays seat result.0 }
 {
     let mut last = 0;
     let mut rises = true;
-    for _ in 0..desk.times {
+    for _ in 0..times {
         let reply = ask(rt, lock, &mut seat, caller);
         rises &= matches!(reply, Reply::Word(Word::Version));
-        if let Some(cell) = desk.cells.get(caller as usize) {
+        if let Some(cell) = cells.get(caller as usize) {
             let answer = cell.load(SeqCst);
             rises &= answer > last;
             last = answer;
-            if let Some(mark) = desk.answers.get(answer as usize) {
+            if let Some(mark) = answers.get(answer as usize) {
                 mark.fetch_add(1, SeqCst);
             }
         }
@@ -67,14 +62,16 @@ fn calls<'a, R: Wait>(
 
 // Calls from `more` threads beside this one, whose seats are then joined into this one's. The numbers from `next` on are
 // not yet given.
-fn team<'a, R: Threads + Wait + Sync>(
+fn team<R: Threads + Wait + Sync>(
     rt: &R,
-    lock: &TurnLock<Vacant<'a>>,
-    mut seat: Seat<Vacant<'a>>,
-    desk: Desk<'a>,
+    lock: &TurnLock<Vacant>,
+    mut seat: Seat<Vacant>,
+    cells: &[AtomicU64],
+    answers: &[AtomicU64],
+    times: u32,
     next: u32,
     more: u32,
-) -> (Seat<Vacant<'a>>, bool)
+) -> (Seat<Vacant>, bool)
     requires own { seat.lock ≡ lock.now }
     requires joined { HasJoined seat next 0 }
     requires few { next + more ≤ 4097 }
@@ -82,19 +79,19 @@ fn team<'a, R: Threads + Wait + Sync>(
     ensures joined { HasJoined result.0 (next + more) more }
 {
     if more == 0 {
-        return calls(rt, lock, seat, desk, 0);
+        return calls(rt, lock, seat, cells, answers, times, 0);
     }
     let other = lock.split(&mut seat);
     let ((mut seat, mine), (other, its)) = join(
         rt,
-        || -> (Seat<Vacant<'_>>, bool)
-            requires { (seat.lock ≡ lock.now) × HasJoined seat (next + 1) 0 × (next + more ≤ 4097) × (0 < more) }
-            ensures { (result.0.lock ≡ seat.lock) × HasJoined result.0 (next + more) (more - 1) }
-        { team(rt, lock, seat, desk, next + 1, more - 1) },
-        || -> (Seat<Vacant<'_>>, bool)
-            requires { other.lock ≡ lock.now }
-            ensures { Stays other result.0 }
-        { calls(rt, lock, other, desk, next) },
+        || -> (Seat<Vacant>, bool)
+            requires { IsSync R.row × (seat.lock ≡ lock.now) × HasJoined seat (next + 1) 0 × (next + more ≤ 4097) × (0 < more) }
+            ensures { (result.0.lock ≡ lock.entry.now) × HasJoined result.0 (next + more) (more - 1) }
+        { team(rt, lock, seat, cells, answers, times, next + 1, more - 1) },
+        || -> (Seat<Vacant>, bool)
+            requires { IsSync R.row × (other.lock ≡ lock.now) × IsFresh other }
+            ensures { (result.0.lock ≡ lock.entry.now) × IsFresh result.0 }
+        { calls(rt, lock, other, cells, answers, times, next) },
     );
     lock.join(&mut seat, other);
     (seat, mine && its)
@@ -118,20 +115,18 @@ fn share<R: Threads + Wait + Sync>(
     for _ in 0..calls + 1 {
         answers.push(AtomicU64::new(0))?;
     }
-    let desk = Desk {
-        cells: cells.as_slice(),
-        answers: answers.as_slice(),
-        times,
-    };
+    let cells = Arc::new(alloc, cells)?;
     let machine = Vacant {
         latest: 0,
         calls: 0,
-        cells: desk.cells,
+        cells: Arc::try_clone(&cells)?,
     };
+    let cells = cells.as_slice();
+    let answers = answers.as_slice();
     let (lock, seat) = TurnLock::new(alloc, machine)?;
-    let (seat, rises) = team(rt, &lock, seat, desk, 1, threads - 1);
+    let (seat, rises) = team(rt, &lock, seat, cells, answers, times, 1, threads - 1);
     let machine = lock.close(seat);
-    let once = desk.answers.iter().skip(1).all(|n| n.load(SeqCst) == 1);
+    let once = answers.iter().skip(1).all(|n| n.load(SeqCst) == 1);
     Ok(rises && once && machine.calls == calls as u64)
 }
 
@@ -149,11 +144,11 @@ fn sixty_four_threads_end(rt: HostRuntime) -> Result<(), Fail> {
 
 #[test]
 fn a_call_is_answered(rt: HostRuntime) -> Result<(), Fail> {
-    let cells = [AtomicU64::new(0)];
+    let cells = Arc::new(rt.alloc(), Vec::new(rt.alloc()))?;
     let machine = Vacant {
         latest: 0,
         calls: 0,
-        cells: &cells,
+        cells,
     };
     let (lock, mut seat) = TurnLock::new(rt.alloc(), machine)?;
     let reply = ask(&rt, &lock, &mut seat, 0);
