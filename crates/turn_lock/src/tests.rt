@@ -1,5 +1,5 @@
 //! Threads that share an executor, and seats that are split and joined in each order.
-ghost use Rattle.std.specs.Prelude.{◌≡◌, ◌+◌, ◌-◌, ◌<◌, ◌≤◌};
+ghost use Rattle.std.specs.Prelude.{◌≡◌, ◌+◌, ◌-◌, ◌<◌, ◌≤◌, IfOk};
 ghost use Rattle.std.specs.Thread.{IsSync};
 ghost use Rattle.turn_lock.specs.Trials.{Stays, HasJoined, IsFresh};
 
@@ -142,15 +142,66 @@ fn sixty_four_threads_end(rt: HostRuntime) -> Result<(), Fail> {
     Ok(())
 }
 
-#[test]
-fn a_call_is_answered(rt: HostRuntime) -> Result<(), Fail> {
-    let cells = Arc::new(rt.alloc(), Vec::new(rt.alloc()))?;
+// A lock round a machine with no cells, and its first seat.
+fn opened(alloc: Global) -> Result<(TurnLock<Vacant>, Seat<Vacant>), Fail>
+    ensures { IfOk result (λ made. (made.1.lock ≡ made.0) × HasJoined made.1 1 0) }
+{
+    let cells = Arc::new(alloc, Vec::new(alloc))?;
     let machine = Vacant {
         latest: 0,
         calls: 0,
         cells,
     };
-    let (lock, mut seat) = TurnLock::new(rt.alloc(), machine)?;
+    Ok(TurnLock::new(alloc, machine)?)
+}
+
+#[test]
+fn seats_join_the_first_one_after_another(rt: HostRuntime) -> Result<(), Fail> {
+    let (lock, mut first) = opened(rt.alloc())?;
+    let mut second = lock.split(&mut first);
+    ask(&rt, &lock, &mut second, 0);
+    let mut third = lock.split(&mut first);
+    ask(&rt, &lock, &mut third, 0);
+    lock.join(&mut first, third);
+    ask(&rt, &lock, &mut first, 0);
+    lock.join(&mut first, second);
+    assert!(rt; lock.close(first).calls == 3);
+    Ok(())
+}
+
+#[test]
+fn a_seat_hands_on_what_it_took_in(rt: HostRuntime) -> Result<(), Fail> {
+    let (lock, mut first) = opened(rt.alloc())?;
+    let mut second = lock.split(&mut first);
+    let mut third = lock.split(&mut first);
+    ask(&rt, &lock, &mut third, 0);
+    lock.join(&mut second, third);
+    ask(&rt, &lock, &mut second, 0);
+    lock.join(&mut first, second);
+    let fourth = lock.split(&mut first);
+    lock.join(&mut first, fourth);
+    assert!(rt; lock.close(first).calls == 2);
+    Ok(())
+}
+
+#[test]
+fn the_register_goes_along(rt: HostRuntime) -> Result<(), Fail> {
+    let (lock, mut first) = opened(rt.alloc())?;
+    let mut second = lock.split(&mut first);
+    ask(&rt, &lock, &mut first, 0);
+    lock.join(&mut second, first);
+    let mut third = lock.split(&mut second);
+    lock.meet(&mut third, &mut second);
+    lock.meet(&mut second, &mut third);
+    ask(&rt, &lock, &mut third, 0);
+    lock.join(&mut third, second);
+    assert!(rt; lock.close(third).calls == 2);
+    Ok(())
+}
+
+#[test]
+fn a_call_is_answered(rt: HostRuntime) -> Result<(), Fail> {
+    let (lock, mut seat) = opened(rt.alloc())?;
     let reply = ask(&rt, &lock, &mut seat, 0);
     assert!(rt; matches!(reply, Reply::Word(Word::Version)));
     let machine = lock.close(seat);
