@@ -1,12 +1,12 @@
 -- What the moves of one call come to, in the words of the contract.
-use Rattle.std.proofs.Common.{◌≡◌, ℕ, List, [], ◌∷◌, ◌++◌, sym, refl, ap, ◌∙◌, subst}
+use Rattle.std.proofs.Common.{◌≡◌, ℕ, List, [], ◌∷◌, ◌++◌, sym, ap, ◌∙◌, subst}
 use Rattle.arc_core.specs.CacheState.{CacheState}
 use Rattle.arc_core.specs.History.{Entry}
 use Rattle.arc_core.specs.PlainRequest.{PlainRequest}
 use Rattle.arc_core.specs.declared.replies.Reply.{Reply}
 use Rattle.atomic_table.specs.Seated.{TableId}
 use Rattle.atomic_table.specs.Table.{Me}
-use Rattle.turn_lock.specs.Calls.{Begins, calls_of, LeadsTo, IsLegal}
+use Rattle.turn_lock.specs.Calls.{calls_of, LeadsTo, IsLegal}
 use Rattle.turn_lock.specs.View.{numbered, served, View}
 use Rattle.turn_lock.specs.Moves.{SeesMore, passed_as, HasTurn, HoldsAfter}
 use Rattle.turn_lock.specs.Seats.{SeatView, seat_view, entry_of, entry_by, IsCalled}
@@ -50,7 +50,7 @@ module _ {E : Type 0} (state_of : E → CacheState) (session second : ℕ) (requ
       subst (λ (o : SeatView). IsCalled o (entry_of o.number session second request reply) (seat_view last pass.0)) is
       (subst (λ (l : TableId). IsCalled (seat_view lock v) (by v) (seat_view l pass.0)) (sym same)
       (from_view lock v t.history t.ticket pass.0 step kind t.sees
-          (subst (λ (u : View). HoldsAfter state_of (u.seen ++ by u ∷ []) step) at_turn held)
-          at_step
-          after
-          (subst (λ (u : View). calls_of u.number (u.seen ++ by u ∷ []) ≡ u.mine ++ by u ∷ []) at_step calls)))
+      (subst (λ (u : View). HoldsAfter state_of (u.seen ++ by u ∷ []) step) at_turn held)
+      at_step
+      after
+      (subst (λ (u : View). calls_of u.number (u.seen ++ by u ∷ []) ≡ u.mine ++ by u ∷ []) at_step calls)))

@@ -1,8 +1,7 @@
 -- The moves of a call keep the rule: draw, look, pass.
-use Rattle.std.proofs.Common.{◌≡◌, ◌≢◌, ℕ, zero, suc, ◌+◌, ◌-◌, ◌%◌, ◌^◌, ◌<◌, ◌≤◌, Bool, true, false, cond, ltb, leb, ◌&&◌, MatchBool, eqb, ◌==◌, List, [], ◌∷◌, ◌++◌, map, length, get_or, set, sym, refl, ap, ◌∙◌, subst, eqb-true, length-set, get_or-set_same, get_or-set_other, length-append, arith}
+use Rattle.std.proofs.Common.{◌≡◌, ◌≢◌, ℕ, zero, suc, ◌+◌, ◌-◌, ◌%◌, ◌^◌, ◌<◌, ◌≤◌, Bool, true, false, cond, ltb, leb, ◌&&◌, MatchBool, List, [], ◌∷◌, ◌++◌, map, length, get_or, set, sym, refl, ap, ◌∙◌, subst, eqb-true, length-set, get_or-set_same, get_or-set_other, length-append, arith}
 use Rattle.std.proofs.Math.Nat.{mod-add-mod}
 use Rattle.std.proofs.lemmas.List.{set-get_or}
-use Rattle.std.specs.List.{AllByRecursion}
 use mathlib.Core.Logic.{dite}
 use native.Mathlib.Decide.{dec_le, ℕ_discrete}
 use mathlib.Core.Option.{Option, none, some}
@@ -11,33 +10,33 @@ use Rattle.arc_core.specs.CacheState.{CacheState}
 use Rattle.arc_core.specs.History.{Entry}
 use Rattle.atomic_table.specs.Table.{State, Me, Act, step, keeps, takes, gives, stepped, Valid, carried_after, homes_after, put_back, rest, Allows}
 use Rattle.atomic_table.proofs.Lists.{one_turn}
-use Rattle.turn_lock.specs.Calls.{Begins, calls_of, LeadsTo}
+use Rattle.turn_lock.specs.Calls.{Begins, LeadsTo}
 use Rattle.turn_lock.specs.View.{Kind, numbered, copy, spent, Turn, outside, waits, served, View, numbers_by, numbers_of, tickets_of, turns_of, times, total}
-use Rattle.turn_lock.specs.Rule.{most_numbers, Keeps, IsInTurn, IsIn, IsNumbered, Fits, once_within, IsSlot, IsKept}
-use Rattle.turn_lock.specs.Moves.{waiting_as, is_next, its_turn, seen_as, served_as, passed_as, drawn, looked, passed, SeesMore, HoldsAfter}
+use Rattle.turn_lock.specs.Rule.{Keeps, IsInTurn, IsNumbered, Fits, once_within, IsSlot, IsKept}
+use Rattle.turn_lock.specs.Moves.{waiting_as, is_next, its_turn, seen_as, served_as, passed_as, drawn, looked, passed, HoldsAfter}
 use Rattle.turn_lock.proofs.Totals.{total_set, total_same, total_below, total_at, total_two, times-append, times_yes, times_no, within_yes, within_below, within_above}
 use Rattle.turn_lock.proofs.Histories.{begins_itself, begins_trans, begins_more, calls_more, calls_other, all_keep, all_apart, not_head}
-use Rattle.turn_lock.proofs.Keeping.{as_numbered, of_numbered, numbers_kept, own_numbers, seen_more, Rule, few_out, is_out, moved, within_bounds}
+use Rattle.turn_lock.proofs.Keeping.{as_numbered, of_numbered, numbers_kept, own_numbers, seen_more, few_out, is_out, moved, within_bounds}
 
 -- one ticket more is out
 drawn_ticket : (low n t : ℕ) → once_within low (low + n) t + times t ((low + n) ∷ []) ≡ once_within low (low + (n + 1)) t
 drawn_ticket low n t = dite (ℕ_discrete (low + n) t)
     (λ e. let a = times_yes t (low + n) e in let b = within_above low (low + n) t (omega arith) in let c = within_yes low (low + (n + 1)) t (omega arith) (omega arith) in omega arith)
     (λ e. let a = times_no t (low + n) e in dite (dec_le low t)
-      (λ l. dite (dec_le (low + n) t)
-        (λ m. let b = within_above low (low + n) t m in let c = within_above low (low + (n + 1)) t (omega arith) in omega arith)
-        (λ m. let b = within_yes low (low + n) t l (omega arith) in let c = within_yes low (low + (n + 1)) t l (omega arith) in omega arith))
-      (λ l. let b = within_below low (low + n) t (omega arith) in let c = within_below low (low + (n + 1)) t (omega arith) in omega arith))
+    (λ l. dite (dec_le (low + n) t)
+    (λ m. let b = within_above low (low + n) t m in let c = within_above low (low + (n + 1)) t (omega arith) in omega arith)
+    (λ m. let b = within_yes low (low + n) t l (omega arith) in let c = within_yes low (low + (n + 1)) t l (omega arith) in omega arith))
+    (λ l. let b = within_below low (low + n) t (omega arith) in let c = within_below low (low + (n + 1)) t (omega arith) in omega arith))
 
 -- the first ticket is no longer out
 passed_ticket : (low n t : ℕ) → once_within low (low + (n + 1)) t ≡ once_within (low + 1) ((low + 1) + n) t + times t (low ∷ [])
 passed_ticket low n t = dite (ℕ_discrete low t)
     (λ e. let a = times_yes t low e in let b = within_below (low + 1) ((low + 1) + n) t (omega arith) in let c = within_yes low (low + (n + 1)) t (omega arith) (omega arith) in omega arith)
     (λ e. let a = times_no t low e in dite (dec_le (low + 1) t)
-      (λ l. dite (dec_le ((low + 1) + n) t)
-        (λ m. let b = within_above (low + 1) ((low + 1) + n) t m in let c = within_above low (low + (n + 1)) t (omega arith) in omega arith)
-        (λ m. let b = within_yes (low + 1) ((low + 1) + n) t l (omega arith) in let c = within_yes low (low + (n + 1)) t (omega arith) (omega arith) in omega arith))
-      (λ l. let b = within_below (low + 1) ((low + 1) + n) t (omega arith) in let c = within_below low (low + (n + 1)) t (omega arith) in omega arith))
+    (λ l. dite (dec_le ((low + 1) + n) t)
+    (λ m. let b = within_above (low + 1) ((low + 1) + n) t m in let c = within_above low (low + (n + 1)) t (omega arith) in omega arith)
+    (λ m. let b = within_yes (low + 1) ((low + 1) + n) t l (omega arith) in let c = within_yes low (low + (n + 1)) t (omega arith) (omega arith) in omega arith))
+    (λ l. let b = within_below (low + 1) ((low + 1) + n) t (omega arith) in let c = within_below low (low + (n + 1)) t (omega arith) in omega arith))
 
 -- a word that a ticket or an entry raises by one
 raised : (w n : ℕ) → w ≡ n % 2 ^ 64 → (w + 1) % 2 ^ 64 ≡ (n + 1) % 2 ^ 64
@@ -112,10 +111,10 @@ module _ {E : Type 0} (state_of : E → CacheState) where
       let n = as_numbered r.opening r.history r.next v kind (r.fits id v at) in
       let none_out : length (tickets_of v.turn) ≡ 0 = ap (λ (t : Turn). length (tickets_of t)) free in
       let here : Fits r.opening r.history r.next w.kind w = of_numbered r.opening r.history r.next v.kind w kind
-          (record { place = record { opening = n.place.opening; seen = n.place.seen; told = n.place.told }; own = n.own; ended = n.ended; register = n.register; turn = tt }) in
+      (record { place = record { opening = n.place.opening; seen = n.place.seen; told = n.place.told }; own = n.own; ended = n.ended; register = n.register; turn = tt }) in
       let two = r.words in let first = r.ticket in
       let same : total (λ u. turns_of u.turn) (set s.views id w) ≡ total (λ u. turns_of u.turn) s.views
-          = total_same (λ u. turns_of u.turn) s.views id v w at (sym (ap turns_of free)) in (
+      = total_same (λ u. turns_of u.turn) s.views id v w at (sym (ap turns_of free)) in (
         w,
         keeps,
         tt,
@@ -149,7 +148,7 @@ module _ {E : Type 0} (state_of : E → CacheState) where
       let z : turns_of v.turn ≡ 0 = ap turns_of mine in
       let o : times l (tickets_of v.turn) ≡ 1 = ap (λ (t : Turn). times l (tickets_of t)) mine ∙ times_yes l l refl in
       let below = total_below (λ u. turns_of u.turn) (λ u. times l (tickets_of u.turn)) s.views id v 1 at (omega arith)
-          (λ j u there. turns_fit r.opening r.history r.next u u.kind (r.fits j u there)) in
+      (λ j u there. turns_fit r.opening r.history r.next u u.kind (r.fits j u there)) in
       let all = r.tickets l in
       let most = within_most l (l + r.waiting) l in
       omega arith
@@ -162,7 +161,7 @@ module _ {E : Type 0} (state_of : E → CacheState) where
   loaded s r id v w at numbers register homes here length_is each slot =
       subst (λ (words : List ℕ). R record { words = words; homes = homes; views = set s.views id w }) (sym (set-get_or s.words 1 0))
       (moved state_of s r id v w at numbers register r.history r.current r.waiting s.words homes r.legal here (λ j u _ there. r.fits j u there) r.known
-          r.words r.ticket r.serving (omega arith) (λ t. let e = each t in omega arith) slot)
+      r.words r.ticket r.serving (omega arith) (λ t. let e = each t in omega arith) slot)
 
   abbrev Looks : Me E View → List Entry → Me E View → Bool → Type 0
   Looks before history after b =
@@ -195,7 +194,7 @@ module _ {E : Type 0} (state_of : E → CacheState) where
       let none_yet = none_in_turn s r id v at mine in
       let slot : IsSlot state_of r.current 0 s.homes = subst (λ (c : ℕ). IsSlot state_of r.current c s.homes) none_yet r.slot in
       let one : total (λ u. turns_of u.turn) (set s.views id w) ≡ 1
-          = (let e = total_set (λ u. turns_of u.turn) s.views id v w at in let a = ap turns_of turn in let b = ap turns_of mine in omega arith) in
+      = (let e = total_set (λ u. turns_of u.turn) s.views id v w at in let a = ap turns_of turn in let b = ap turns_of mine in omega arith) in
       let homes : set s.homes 0 none ≡ none ∷ [] = ap (λ (h : List (Option E)). set h 0 none) slot.1 in
       let tickets : tickets_of w.turn ≡ tickets_of v.turn = ap tickets_of turn ∙ sym (ap tickets_of mine) in (
         w,
@@ -279,17 +278,17 @@ module _ {E : Type 0} (state_of : E → CacheState) where
             (subst (λ (x : CacheState). LeadsTo x (r.history ++ more) (state_of held.0)) n.place.opening (subst (λ (h : List Entry). LeadsTo v.opening (h ++ more) (state_of held.0)) its.1 held.2))
             (of_numbered r.opening (r.history ++ more) r.next v.kind w kind (has_called s r id v entry at kind seat its.1 n))
             (λ j u apart there. fits_further r.opening r.history r.next u u.kind entry (r.fits j u there)
-                (ap (λ (m : ℕ). times m (numbers_of u)) seat ∙ number.2 j u apart there)
-                (let two = total_two (λ x. turns_of x.turn) s.views id j v u at there apart in let one = slot.0 in omega arith))
+            (ap (λ (m : ℕ). times m (numbers_of u)) seat ∙ number.2 j u apart there)
+            (let two = total_two (λ x. turns_of x.turn) s.views id j v u at there apart in let one = slot.0 in omega arith))
             (λ m above. calls_other m r.history entry (λ e. let a = number.0 in let b = seat in omega arith) ∙ r.known m above)
             (length-set s.words 1 _ ∙ r.words)
             (get_or-set_other s.words 1 0 _ 0 (λ e. omega arith) ∙ (r.ticket ∙ ap (λ (x : ℕ). x % 2 ^ 64) (omega arith)))
             (get_or-set_same s.words 1 _ 0 (let two = r.words in omega arith) ∙ (raised (get_or s.words 1 0) l r.serving ∙ ap (λ (x : ℕ). x % 2 ^ 64) (sym longer)))
             (let one = ap length tickets in omega arith)
             (λ t. let p = passed_ticket l left t in let o = ap (times t) tickets in
-                let a : left + 1 ≡ r.waiting = omega arith in
-                let b = ap (λ (x : ℕ). once_within l (l + x) t) a in
-                let c = ap (λ (x : ℕ). once_within x (x + left) t) longer in omega arith)
+            let a : left + 1 ≡ r.waiting = omega arith in
+            let b = ap (λ (x : ℕ). once_within l (l + x) t) a in
+            let c = ap (λ (x : ℕ). once_within x (x + left) t) longer in omega arith)
             (subst (λ (c : ℕ). IsSlot state_of (state_of held.0) c (homes_after s.homes me.1 gives)) (sym no_turn) (held.0, homes, refl)),
         ((λ i. (w, rest (held.1 i))), calls_more v.number v.seen entry seat ∙ ap (λ (x : List Entry). x ++ more) n.own.1),
       )

@@ -1,5 +1,5 @@
 -- The lock is made, and closed.
-use Rattle.std.proofs.Common.{◌≡◌, ◌≢◌, ℕ, zero, suc, ◌+◌, ◌%◌, ◌^◌, ◌<◌, ◌≤◌, Bool, cond, List, [], ◌∷◌, ◌++◌, map, length, sym, refl, ap, ◌∙◌, subst, eqb, ◌==◌, eq-eqb, append-nil, arith, Option, Some, None, IfSome, IsSomeAnd}
+use Rattle.std.proofs.Common.{◌≡◌, ◌≢◌, ℕ, zero, suc, ◌≤◌, Bool, cond, List, [], ◌∷◌, ◌++◌, map, length, sym, refl, ap, ◌∙◌, subst, eq-eqb, append-nil, arith, Option, IfSome}
 use Rattle.std.specs.List.{AllByRecursion}
 use mathlib.Core.Logic.{dite}
 use native.Mathlib.Decide.{dec_le, ℕ_discrete}
@@ -9,12 +9,12 @@ use Rattle.arc_core.specs.CacheState.{CacheState, IsState}
 use Rattle.arc_core.specs.History.{Entry}
 use Rattle.atomic_table.specs.Seated.{TableId}
 use Rattle.atomic_table.specs.Table.{State, opening, Final, Seen}
-use Rattle.turn_lock.specs.Calls.{Begins, calls_of, LeadsTo}
-use Rattle.turn_lock.specs.View.{Kind, numbered, outside, Turn, View, first_view, numbers_of, tickets_of, turns_of, times, total}
+use Rattle.turn_lock.specs.Calls.{calls_of, LeadsTo}
+use Rattle.turn_lock.specs.View.{numbered, outside, Turn, View, first_view, numbers_of, tickets_of, turns_of, times, total}
 use Rattle.turn_lock.specs.Rule.{Keeps, IsNumbered, Fits, once_within, IsSlot, IsKept}
 use Rattle.turn_lock.specs.Moves.{next_number}
-use Rattle.turn_lock.specs.Seats.{SeatView, seat_view, HasAll, IsWhole}
-use Rattle.turn_lock.proofs.Totals.{total_two, times_yes, times_no, times-append, within_yes, within_above}
+use Rattle.turn_lock.specs.Seats.{seat_view, HasAll, IsWhole}
+use Rattle.turn_lock.proofs.Totals.{total_two, times_no, times-append, within_yes, within_above}
 use Rattle.turn_lock.proofs.Histories.{calls_before, calls_rest, all_keep, nothing}
 use Rattle.turn_lock.proofs.Keeping.{as_numbered, own_numbers, tickets_few}
 use Rattle.turn_lock.proofs.Sharing.{once_more, some_and}
@@ -115,11 +115,11 @@ module _ {E : Type 0} (state_of : E → CacheState) where
       let rest = f.place.seen.0 in let is = f.place.seen.1 in
       let kept : AllByRecursion (Keeps r.history v.seen) ((v.number, v.mine) ∷ v.ended) = (f.own, f.ended) in
       let none_of : (m : ℕ) → calls_of m rest ≡ [] = λ m. dite (dec_le r.next m)
-          (λ above. calls_rest m v.seen rest [] (calls_before m v.seen r.history f.place.seen (r.known m above)) (ap (calls_of m) (sym is) ∙ r.known m above))
-          (λ below. let e = each m in let one = within_yes 0 r.next m (omega arith) (omega arith) in let o = ap (times m) (own_numbers v kind) in
-              let k = kept_there (Keeps r.history v.seen) m ((v.number, v.mine) ∷ v.ended) (omega arith) kept in
-              let keeps : (calls_of m r.history ≡ k.0.1) × (calls_of m v.seen ≡ k.0.1) = subst (λ (x : ℕ). (calls_of x r.history ≡ k.0.1) × (calls_of x v.seen ≡ k.0.1)) k.1 k.2 in
-              calls_rest m v.seen rest k.0.1 keeps.1 (ap (calls_of m) (sym is) ∙ keeps.0)) in
+      (λ above. calls_rest m v.seen rest [] (calls_before m v.seen r.history f.place.seen (r.known m above)) (ap (calls_of m) (sym is) ∙ r.known m above))
+      (λ below. let e = each m in let one = within_yes 0 r.next m (omega arith) (omega arith) in let o = ap (times m) (own_numbers v kind) in
+      let k = kept_there (Keeps r.history v.seen) m ((v.number, v.mine) ∷ v.ended) (omega arith) kept in
+      let keeps : (calls_of m r.history ≡ k.0.1) × (calls_of m v.seen ≡ k.0.1) = subst (λ (x : ℕ). (calls_of x r.history ≡ k.0.1) × (calls_of x v.seen ≡ k.0.1)) k.1 k.2 in
+      calls_rest m v.seen rest k.0.1 keeps.1 (ap (calls_of m) (sym is) ∙ keeps.0)) in
       is ∙ (ap (λ (l : List Entry). v.seen ++ l) (no_calls rest none_of) ∙ append-nil v.seen)
 
   pub closes : (id : ℕ) (v : View) (lock : TableId) (words : List ℕ) (slots : List E) (y : E) → v.kind ≡ numbered → v.turn ≡ outside → HasAll (seat_view lock v)
@@ -134,7 +134,7 @@ module _ {E : Type 0} (state_of : E → CacheState) where
       let none_else = alone s r id v at all in
       let turns = total_only (λ u. turns_of u.turn) s.views id v at (λ j u apart it. no_turn s r j u it (none_else j u apart it)) ∙ ap turns_of free in
       let each : (m : ℕ) → times m (numbers_of v) ≡ once_within 0 r.next m
-          = λ m. sym (total_only (λ u. times m (numbers_of u)) s.views id v at (λ j u apart it. times_none m (numbers_of u) (none_else j u apart it))) ∙ r.once m in
+      = λ m. sym (total_only (λ u. times m (numbers_of u)) s.views id v at (λ j u apart it. times_none m (numbers_of u) (none_else j u apart it))) ∙ r.once m in
       let slot : IsSlot state_of r.current 0 s.homes = subst (λ (c : ℕ). IsSlot state_of r.current c s.homes) turns r.slot in
       let home = final.4 0 slot.0 (ap (λ (h : List (Home E)). get_elem? h 0) slot.1) in
       let same : slot.0 ≡ y = some-injective slot.0 y (sym home ∙ there) in

@@ -1,9 +1,9 @@
 -- Histories: beginnings, calls of a number, and legality one entry further.
-use Rattle.std.proofs.Common.{◌≡◌, ◌≢◌, ℕ, zero, suc, ◌+◌, ◌<◌, ◌≤◌, List, [], ◌∷◌, ◌++◌, map, length, sym, refl, ap, ◌∙◌, subst, Bool, true, false, leb, eqb, ◌==◌, filter, cond, arith, append_assoc, append-nil, length-append, leb-true, leb-false, eq-eqb, ne_eqb}
+use Rattle.std.proofs.Common.{◌≡◌, ◌≢◌, ℕ, ◌+◌, ◌≤◌, List, [], ◌∷◌, ◌++◌, map, length, sym, refl, ap, ◌∙◌, subst, Bool, true, false, leb, ◌==◌, cond, arith, append_assoc, append-nil, length-append, leb-true, leb-false, eq-eqb, ne_eqb}
 use Rattle.std.proofs.lemmas.List.Elements.{filter-append}
 use Rattle.std.specs.List.{AllByRecursion}
 use Rattle.arc_core.specs.CacheState.{CacheState, IsState}
-use Rattle.arc_core.specs.History.{Entry, Executes}
+use Rattle.arc_core.specs.History.{Entry, Executes, Replays}
 use Rattle.turn_lock.specs.Calls.{Begins, calls_of, LeadsTo}
 use Rattle.turn_lock.specs.View.{longer, shorter, times}
 use Rattle.turn_lock.specs.Rule.{Keeps}
@@ -45,7 +45,7 @@ begins_whole a h p le =
 pub shorter_begins : (a b h : List Entry) → Begins a h → Begins b h → Begins (shorter a b) (longer a b)
 shorter_begins a b h p q =
     elim (leb (length a) (length b)) as (λ t. leb (length a) (length b) ≡ t → Begins (cond t a b) (cond t b a)) [
-      true ↦ λ e. begins_both a b h p q (leb-true (length a) (length b) e)
+      | true ↦ λ e. begins_both a b h p q (leb-true (length a) (length b) e)
       | false ↦ λ e. begins_both b a h q p (let l = leb-false (length a) (length b) e in omega arith)
     ] refl
 
@@ -128,3 +128,17 @@ all_append P (x ∷ xs) ys p q = (p.0, all_append P xs ys p.1 q)
 
 pub keeps_further : (history more seen : List Entry) (kept : ℕ × List Entry) → calls_of kept.0 more ≡ calls_of kept.0 history → Keeps history seen kept → Keeps more seen kept
 keeps_further history more seen kept e k = (e ∙ k.0, k.1)
+
+-- what a legal history tells
+pub replayed : (old : CacheState) (h : List Entry) (new : CacheState) → LeadsTo old h new → Replays old h new
+replayed old [] new l = l.0
+replayed old (e ∷ es) new l = (l.1, l.2, replayed l.1 es new l.3)
+
+kept_first : (old : CacheState) (h : List Entry) (new : CacheState) → LeadsTo old h new → IsState old
+kept_first old [] new l = l.1
+kept_first old (e ∷ es) new l = l.0
+
+pub each_place : (old : CacheState) (front rest : List Entry) (new : CacheState) → LeadsTo old (front ++ rest) new
+    → (middle : CacheState) × LeadsTo old front middle × IsState middle × LeadsTo middle rest new
+each_place old [] rest new l = let is = kept_first old rest new l in (old, (refl, is), is, l)
+each_place old (e ∷ es) rest new l = let m = each_place l.1 es rest new l.3 in (m.0, (l.0, l.1, l.2, m.1), m.2, m.3)

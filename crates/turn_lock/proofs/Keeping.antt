@@ -1,6 +1,6 @@
 -- A move of one seat keeps the rule: what is common to all moves.
-use Rattle.std.proofs.Common.{◌≡◌, ◌≢◌, ℕ, zero, suc, ◌+◌, ◌%◌, ◌^◌, ◌<◌, ◌≤◌, List, [], ◌∷◌, ◌++◌, map, length, get_or, set, sym, refl, ap, ◌∙◌, subst, ⊎_elim, arith}
-use mathlib.Core.Option.{Option, none, some}
+use Rattle.std.proofs.Common.{◌≡◌, ◌≢◌, ℕ, ◌+◌, ◌%◌, ◌^◌, ◌<◌, ◌≤◌, List, [], ◌∷◌, map, length, get_or, set, sym, refl, ap, ◌∙◌, subst, ⊎_elim, arith}
+use mathlib.Core.Option.{Option, some}
 use mathlib.Core.Logic.{dite}
 use native.Mathlib.Decide.{dec_le}
 use lib.ListN.{get_elem?}
@@ -8,12 +8,11 @@ use Rattle.arc_core.specs.CacheState.{CacheState}
 use Rattle.arc_core.specs.History.{Entry}
 use Rattle.atomic_table.specs.Table.{State}
 use Rattle.atomic_table.proofs.Lists.{at_set}
-use Rattle.turn_lock.specs.Calls.{Begins, calls_of, LeadsTo}
-use Rattle.turn_lock.specs.View.{Kind, numbered, copy, spent, Turn, outside, waits, served, View, spent_view, numbers_by, numbers_of, tickets_of, turns_of, registers_of, times, total}
-use Rattle.turn_lock.specs.Rule.{most_numbers, Keeps, IsInTurn, IsIn, IsNumbered, IsCopy, Fits, once_within, IsSlot, IsKept}
+use Rattle.turn_lock.specs.Calls.{calls_of, LeadsTo}
+use Rattle.turn_lock.specs.View.{Kind, numbered, copy, spent, Turn, outside, waits, served, View, numbers_by, numbers_of, tickets_of, turns_of, registers_of, times, total}
+use Rattle.turn_lock.specs.Rule.{most_numbers, IsNumbered, Fits, once_within, IsSlot, IsKept}
 use Rattle.turn_lock.specs.Moves.{SeesMore}
-use Rattle.turn_lock.proofs.Totals.{total_set, total_same, total_le, total_below, total_at, total_two, within_yes, within_below, within_above}
-use Rattle.turn_lock.proofs.Histories.{begins_itself}
+use Rattle.turn_lock.proofs.Totals.{total_set, total_same, total_le, total_at, within_below, within_above}
 
 pub as_numbered : (opening : CacheState) (history : List Entry) (next : ℕ) (v : View) → v.kind ≡ numbered → Fits opening history next v.kind v → IsNumbered opening history next v
 as_numbered opening history next v is f = subst (λ (k : Kind). Fits opening history next k v) is f
@@ -63,7 +62,7 @@ module _ {E : Type 0} (state_of : E → CacheState) where
   pub few_out : (s : State E View) (r : Rule s) → r.waiting ≤ most_numbers
   few_out s r =
       let le = total_le (λ v. length (tickets_of v.turn)) (λ v. length (numbers_of v)) s.views
-          (λ id v at. tickets_few r.opening r.history r.next v v.kind refl (r.fits id v at)) in
+      (λ id v at. tickets_few r.opening r.history r.next v v.kind refl (r.fits id v at)) in
       let few = r.few in let count = r.count in let out = r.out in omega arith
 
   -- the ticket of a view is one of those that are out

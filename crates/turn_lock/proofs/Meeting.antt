@@ -1,5 +1,5 @@
 -- What a join and a meeting come to, in the words of the contracts.
-use Rattle.std.proofs.Common.{◌≡◌, ℕ, Bool, true, false, MatchBool, List, [], ◌∷◌, ◌++◌, sym, refl, ap, ◌∙◌, subst, append-nil, Option, Some, None}
+use Rattle.std.proofs.Common.{◌≡◌, ℕ, Bool, false, MatchBool, List, [], ◌∷◌, sym, refl, ap, ◌∙◌, subst, append-nil, Option, Some, None}
 use Rattle.arc_core.specs.CacheState.{CacheState}
 use Rattle.arc_core.specs.History.{Entry}
 use Rattle.atomic_table.specs.Seated.{TableId}
@@ -7,7 +7,7 @@ use mathlib.Core.Option.{none}
 use Rattle.atomic_table.specs.Table.{Me, step}
 use Rattle.turn_lock.specs.Calls.{Begins, LeadsTo}
 use Rattle.turn_lock.specs.View.{outside, Turn, View, longer, shorter}
-use Rattle.turn_lock.specs.Moves.{SeesMore, is_next, its_turn, served_as, seen_as, copied, first_register, joined_with, looked, recalled}
+use Rattle.turn_lock.specs.Moves.{is_next, served_as, seen_as, copied, first_register, joined_with, looked}
 use Rattle.turn_lock.specs.Seats.{SeatView, seat_view, IsMet}
 use Rattle.turn_lock.proofs.Histories.{begins_trans, first_begins, second_begins}
 

@@ -1,21 +1,21 @@
 -- A view is split, joined or recalled: the rule is kept.
-use Rattle.std.proofs.Common.{◌≡◌, ◌≢◌, ℕ, zero, suc, ◌+◌, ◌%◌, ◌^◌, ◌<◌, ◌≤◌, Bool, true, false, List, [], ◌∷◌, ◌++◌, map, length, get_or, set, sym, refl, ap, ◌∙◌, subst, ⊎_elim, append-nil, length-append, arith, Option, Some, None, IfSome, IsSomeAnd, option_map}
+use Rattle.std.proofs.Common.{◌≡◌, ◌≢◌, ℕ, ◌+◌, ◌≤◌, List, [], ◌∷◌, ◌++◌, map, length, set, sym, refl, ap, ◌∙◌, subst, ⊎_elim, length-append, arith, Option, Some, None, IfSome, IsSomeAnd, option_map}
 use Rattle.std.specs.List.{AllByRecursion}
 use mathlib.Core.Logic.{dite}
 use mathlib.Core.List.{map-append}
 use native.Mathlib.Decide.{dec_le, ℕ_discrete}
-use mathlib.Core.Option.{Option as Home, none, some}
+use mathlib.Core.Option.{none, some}
 use lib.ListN.{get_elem?}
 use Rattle.arc_core.specs.CacheState.{CacheState}
 use Rattle.arc_core.specs.History.{Entry}
-use Rattle.atomic_table.specs.Table.{State, Me, Act, step, keeps, stepped, Splits, Joins, Allows}
-use Rattle.atomic_table.proofs.Lists.{at_set, at_snoc, set_else}
-use Rattle.turn_lock.specs.Calls.{Begins, calls_of, LeadsTo}
-use Rattle.turn_lock.specs.View.{Kind, numbered, copy, spent, Turn, outside, waits, served, View, spent_view, numbers_by, numbers_of, tickets_of, turns_of, registers_of, times, total, longer, shorter}
-use Rattle.turn_lock.specs.Rule.{most_numbers, Keeps, IsInTurn, IsIn, IsNumbered, Fits, once_within, IsSlot, IsKept}
+use Rattle.atomic_table.specs.Table.{State, Me, step, keeps, Splits, Joins, Allows}
+use Rattle.atomic_table.proofs.Lists.{at_snoc, set_else}
+use Rattle.turn_lock.specs.Calls.{Begins, calls_of}
+use Rattle.turn_lock.specs.View.{Kind, numbered, copy, spent, Turn, outside, View, spent_view, numbers_by, numbers_of, tickets_of, turns_of, registers_of, times, total, longer}
+use Rattle.turn_lock.specs.Rule.{most_numbers, Keeps, IsInTurn, IsNumbered, Fits, once_within, IsSlot, IsKept}
 use Rattle.turn_lock.specs.Moves.{split_left, split_right, next_number, copied, handed_over, first_register, joined_with, recalled}
-use Rattle.turn_lock.proofs.Totals.{total_set, total_snoc, total_same, total_two, times-append, times_yes, times_no, within_yes, within_below, within_above}
-use Rattle.turn_lock.proofs.Histories.{begins_itself, begins_trans, shorter_begins, longer_begins, first_begins, second_begins, calls_between, calls_before, all_keep, all_append}
+use Rattle.turn_lock.proofs.Totals.{total_set, total_snoc, total_same, total_two, times-append, times_yes, times_no, within_yes, within_above}
+use Rattle.turn_lock.proofs.Histories.{begins_itself, shorter_begins, longer_begins, first_begins, second_begins, calls_between, calls_before, all_keep, all_append}
 use Rattle.turn_lock.proofs.Keeping.{as_numbered, of_numbered, numbers_kept, own_numbers, all_fit}
 use Rattle.turn_lock.proofs.Calling.{loaded}
 
@@ -24,8 +24,8 @@ pub once_more : (n t : ℕ) → once_within 0 n t + times t (n ∷ []) ≡ once_
 once_more n t = dite (ℕ_discrete n t)
     (λ e. let a = times_yes t n e in let b = within_above 0 n t (omega arith) in let c = within_yes 0 (n + 1) t (omega arith) (omega arith) in omega arith)
     (λ e. let a = times_no t n e in dite (dec_le n t)
-      (λ l. let b = within_above 0 n t l in let c = within_above 0 (n + 1) t (omega arith) in omega arith)
-      (λ l. let b = within_yes 0 n t (omega arith) (omega arith) in let c = within_yes 0 (n + 1) t (omega arith) (omega arith) in omega arith))
+    (λ l. let b = within_above 0 n t l in let c = within_above 0 (n + 1) t (omega arith) in omega arith)
+    (λ l. let b = within_yes 0 n t (omega arith) (omega arith) in let c = within_yes 0 (n + 1) t (omega arith) (omega arith) in omega arith))
 
 no_register : (r : Option ℕ) → registers_of r ≡ 0 → r ≡ None
 no_register None z = refl
@@ -86,9 +86,9 @@ module _ {E : Type 0} (state_of : E → CacheState) where
       → R record { words = s.words; homes = s.homes; views = set s.views id left ++ right ∷ [] }
   parted s r id v left right at next few fits_left fits_right others count once known register same free =
       let grown : (f : View → ℕ) → total f (set s.views id left ++ right ∷ []) + f v ≡ total f s.views + (f left + f right)
-          = λ f. let a = total_set f s.views id v left at in let b = total_snoc f (set s.views id left) right in omega arith in
+      = λ f. let a = total_set f s.views id v left at in let b = total_snoc f (set s.views id left) right in omega arith in
       let turns : total (λ u. turns_of u.turn) (set s.views id left ++ right ∷ []) ≡ total (λ u. turns_of u.turn) s.views
-          = (let g = grown (λ u. turns_of u.turn) in let a = ap turns_of same in let b = ap turns_of free in omega arith) in record {
+      = (let g = grown (λ u. turns_of u.turn) in let a = ap turns_of same in let b = ap turns_of free in omega arith) in record {
         opening = r.opening;
         history = r.history;
         current = r.current;
@@ -119,42 +119,42 @@ module _ {E : Type 0} (state_of : E → CacheState) where
       let fresh : calls_of (next_number v.register) r.history ≡ [] = r.known (next_number v.register) (omega arith) in
       let own = own_numbers v kind in let left_numbers = numbers_kept v.kind v (split_left v) refl refl in
       parted s r id v (split_left v) (split_right v) at (n + 1) (omega arith)
-          (of_numbered r.opening r.history (n + 1) v.kind (split_left v) kind (record {
-            place = record { opening = f.place.opening; seen = f.place.seen; told = f.place.told };
-            own = f.own;
-            ended = f.ended;
-            register = subst (λ (x : Option ℕ). IfSome (option_map (λ m. m + 1) x) (λ m. m ≡ n + 1)) (sym has) refl;
-            turn = f.turn;
-          }))
-          (record {
-            place = record { opening = f.place.opening; seen = f.place.seen; told = begins_itself v.seen };
-            own = (fresh, calls_before (next_number v.register) v.seen r.history f.place.seen fresh);
-            ended = tt;
-            register = tt;
-            turn = tt;
-          })
-          (λ j u apart there. fits_next r.opening r.history r.next (n + 1) u u.kind
-              (let two = total_two (λ x. registers_of x.register) s.views id j v u at there apart in let all = r.register in omega arith)
-              (r.fits j u there))
-          (let l = ap length left_numbers in omega arith)
-          (λ m. let l = ap (times m) left_numbers in let o = once_more n m in let g = ap (λ (x : ℕ). times m (x ∷ [])) given in let w = ap (λ (x : ℕ). once_within 0 x m) is in omega arith)
-          (λ m above. r.known m (omega arith))
-          (let a = ap (λ (x : Option ℕ). registers_of (option_map (λ m. m + 1) x)) has in omega arith)
-          refl
-          refl
+      (of_numbered r.opening r.history (n + 1) v.kind (split_left v) kind (record {
+        place = record { opening = f.place.opening; seen = f.place.seen; told = f.place.told };
+        own = f.own;
+        ended = f.ended;
+        register = subst (λ (x : Option ℕ). IfSome (option_map (λ m. m + 1) x) (λ m. m ≡ n + 1)) (sym has) refl;
+        turn = f.turn;
+      }))
+      (record {
+        place = record { opening = f.place.opening; seen = f.place.seen; told = begins_itself v.seen };
+        own = (fresh, calls_before (next_number v.register) v.seen r.history f.place.seen fresh);
+        ended = tt;
+        register = tt;
+        turn = tt;
+      })
+      (λ j u apart there. fits_next r.opening r.history r.next (n + 1) u u.kind
+      (let two = total_two (λ x. registers_of x.register) s.views id j v u at there apart in let all = r.register in omega arith)
+      (r.fits j u there))
+      (let l = ap length left_numbers in omega arith)
+      (λ m. let l = ap (times m) left_numbers in let o = once_more n m in let g = ap (λ (x : ℕ). times m (x ∷ [])) given in let w = ap (λ (x : ℕ). once_within 0 x m) is in omega arith)
+      (λ m above. r.known m (omega arith))
+      (let a = ap (λ (x : Option ℕ). registers_of (option_map (λ m. m + 1) x)) has in omega arith)
+      refl
+      refl
 
   pub copies : (id : ℕ) (v : View) → v.kind ≡ numbered → Splits R id v v (copied v)
   copies id v kind s r at =
       let f = as_numbered r.opening r.history r.next v kind (r.fits id v at) in
       parted s r id v v (copied v) at r.next r.few (r.fits id v at)
-          (record {
-            place = record { opening = f.place.opening; seen = f.place.seen; told = begins_itself v.seen };
-            mine = refl;
-            ended = refl;
-            register = refl;
-            turn = refl;
-          })
-          (λ j u _ there. r.fits j u there) (omega arith) (λ m. omega arith) r.known (omega arith) refl refl
+      (record {
+        place = record { opening = f.place.opening; seen = f.place.seen; told = begins_itself v.seen };
+        mine = refl;
+        ended = refl;
+        register = refl;
+        turn = refl;
+      })
+      (λ j u _ there. r.fits j u there) (omega arith) (λ m. omega arith) r.known (omega arith) refl refl
 
   -- the joined view fits
   joined_fits : (s : State E View) (r : R s) (v w : View) → v.kind ≡ numbered → v.turn ≡ outside → IsNumbered r.opening r.history r.next v → Fits r.opening r.history r.next w.kind w
@@ -165,9 +165,9 @@ module _ {E : Type 0} (state_of : E → CacheState) where
       let both = shorter_begins v.seen w.seen h f.place.seen other.0 in
       let whole = longer_begins v.seen w.seen h f.place.seen other.0 in
       let from_own : (kept : ℕ × List Entry) → Keeps h v.seen kept → Keeps h l kept
-          = λ kept k. (k.0, calls_between kept.0 v.seen l h kept.1 (first_begins v.seen w.seen both) whole k.1 k.0) in
+      = λ kept k. (k.0, calls_between kept.0 v.seen l h kept.1 (first_begins v.seen w.seen both) whole k.1 k.0) in
       let from_other : (kept : ℕ × List Entry) → Keeps h w.seen kept → Keeps h l kept
-          = λ kept k. (k.0, calls_between kept.0 w.seen l h kept.1 (second_begins v.seen w.seen both) whole k.1 k.0) in record {
+      = λ kept k. (k.0, calls_between kept.0 w.seen l h kept.1 (second_begins v.seen w.seen both) whole k.1 k.0) in record {
         place = record { opening = f.place.opening; seen = whole; told = both };
         own = from_own (v.number, v.mine) f.own;
         ended = all_append (Keeps h l) v.ended (handed_over w.kind w) (all_keep (Keeps h v.seen) (Keeps h l) v.ended from_own f.ended)
@@ -197,7 +197,7 @@ module _ {E : Type 0} (state_of : E → CacheState) where
       let g = r.fits other w old in
       let numbers = joined_numbers v w kind in
       let sums : (h : View → ℕ) → h both ≡ h v + h w → h spent_view ≡ 0 → total h (set (set s.views id both) other spent_view) ≡ total h s.views
-          = λ h sum zero_spent. total_joined h s.views id other v w both at there sum zero_spent in
+      = λ h sum zero_spent. total_joined h s.views id other v w both at there sum zero_spent in
       let all = r.register in
       let two = total_two (λ x. registers_of x.register) s.views id other v w at old apart in
       let turns = sums (λ u. turns_of u.turn) (let a = ap turns_of away in omega arith) refl in record {
@@ -209,7 +209,7 @@ module _ {E : Type 0} (state_of : E → CacheState) where
         legal = r.legal;
         fits = all_fit (λ (x : View). Fits r.opening r.history r.next x.kind x) (set s.views id both) other spent_view refl
             (λ j u _ here. all_fit (λ (x : View). Fits r.opening r.history r.next x.kind x) s.views id both
-              (of_numbered r.opening r.history r.next v.kind both kind (joined_fits s r v w kind free f g)) (λ i x _ it. r.fits i x it) j u here);
+            (of_numbered r.opening r.history r.next v.kind both kind (joined_fits s r v w kind free f g)) (λ i x _ it. r.fits i x it) j u here);
         few = r.few;
         count = sums (λ u. length (numbers_of u)) (ap length numbers ∙ length-append (numbers_of v) (numbers_of w)) refl ∙ r.count;
         once = λ m. sums (λ u. times m (numbers_of u)) (ap (times m) numbers ∙ times-append m (numbers_of v) (numbers_of w)) refl ∙ r.once m;

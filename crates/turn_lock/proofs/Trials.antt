@@ -1,5 +1,5 @@
 -- The tests' executor, which holds nothing, and their one request.
-use Rattle.std.proofs.Common.{◌≡◌, ℕ, ◌<◌, ◌^◌, ◌≤◌, max, ℤ, List, [], ◌∷◌, length, codes, bytes_eq, Some, None, Option, sym, refl, ap, ◌∙◌, arith}
+use Rattle.std.proofs.Common.{◌≡◌, ℕ, ◌<◌, ◌^◌, max, ℤ, List, [], ◌∷◌, length, codes, bytes_eq, Some, None, Option, sym, refl, ap, ◌∙◌, arith}
 use Rattle.std.specs.Ordering.{nat_cmp}
 use Rattle.std.specs.Cmp.Lexicographic.{slice_cmp}
 use Rattle.std.specs.FinMap as finite
@@ -9,9 +9,9 @@ use Rattle.arc_core.specs.declared.requests.Answer.TheVariants as answer
 use Rattle.arc_core.specs.declared.replies.Reply.TheVariants as reply
 use Rattle.arc_core.specs.declared.replies.Word.TheVariants as word
 use Rattle.arc_core.specs.Item.{Item, size_of}
-use Rattle.arc_core.specs.Places.{Places, empty_places, found, weight_of}
-use Rattle.arc_core.specs.CacheState.{CacheState, IsState, ArePlaced}
-use Rattle.arc_core.specs.PlainRequest.{PlainAct, PlainRequest, delete, touch, flush_all, version}
+use Rattle.arc_core.specs.Places.{weight_of}
+use Rattle.arc_core.specs.CacheState.{IsState}
+use Rattle.arc_core.specs.PlainRequest.{delete, touch, flush_all, version}
 use Rattle.arc_core.specs.Grammar.{CanBeSpelled, version_command, command_of}
 use Rattle.arc_core.specs.KeyValueGrammar.{Head}
 use Rattle.arc_core.specs.KeyValueGrammar as command

@@ -1,12 +1,11 @@
 -- A seat that waits for its turn: one look after another.
-use Rattle.std.proofs.Common.{◌≡◌, ◌≢◌, ℕ, ◌+◌, ◌%◌, ◌^◌, Bool, true, false, MatchBool, eqb, ◌==◌, List, [], ◌∷◌, ◌++◌, sym, refl, ap, ◌∙◌, subst, eq-eqb, ne_eqb}
-use Rattle.std.proofs.lemmas.List.{set-get_or}
+use Rattle.std.proofs.Common.{◌≡◌, ◌≢◌, ℕ, ◌%◌, ◌^◌, Bool, true, false, MatchBool, List, [], ◌∷◌, sym, ap, ◌∙◌, subst, eq-eqb, ne_eqb}
 use Rattle.arc_core.specs.CacheState.{CacheState}
 use Rattle.arc_core.specs.History.{Entry}
 use mathlib.Core.Option.{none}
 use Rattle.atomic_table.specs.Table.{Me, Step, step}
-use Rattle.turn_lock.specs.Calls.{Begins, calls_of, LeadsTo}
-use Rattle.turn_lock.specs.View.{numbered, waits, served, View}
+use Rattle.turn_lock.specs.Calls.{LeadsTo}
+use Rattle.turn_lock.specs.View.{waits, served, View}
 use Rattle.turn_lock.specs.Moves.{SeesMore, waiting_as, is_next, drawn, looked, HasTurn}
 use Rattle.turn_lock.proofs.Histories.{begins_trans}
 

@@ -4,3 +4,4 @@ pub mod Rule
 pub mod Moves
 pub mod Seats
 pub mod Trials
+pub mod Laws

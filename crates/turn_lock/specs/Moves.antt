@@ -1,5 +1,5 @@
 -- The moves of a seat, and what each tells the thread that makes it. The words are `ticket`, 0, and `serving`, 1.
-use Rattle.std.specs.Prelude.{◌≡◌, ℕ, ◌+◌, ◌%◌, ◌^◌, ◌<◌, Bool, false, List, [], ◌∷◌, ◌++◌, Some, None, Option, MatchBool, ◌==◌}
+use Rattle.std.specs.Prelude.{◌≡◌, ℕ, ◌+◌, ◌%◌, ◌^◌, Bool, false, List, [], ◌∷◌, ◌++◌, Some, None, Option, MatchBool, ◌==◌}
 use Rattle.std.specs.Option.{option_map}
 use Rattle.arc_core.specs.CacheState.{CacheState}
 use Rattle.arc_core.specs.History.{Entry}
@@ -89,8 +89,8 @@ module _ {E : Type 0} where
   looked state_of step before found after =
       (history : List Entry) × SeesMore before.0 history
       × MatchBool (is_next before.0.turn found)
-        ((executor : E) × (after ≡ (served_as before.0 history, (0, executor) ∷ [])) × LeadsTo before.0.opening history (state_of executor))
-        (after ≡ (seen_as before.0 history, before.1))
+      ((executor : E) × (after ≡ (served_as before.0 history, (0, executor) ∷ [])) × LeadsTo before.0.opening history (state_of executor))
+      (after ≡ (seen_as before.0 history, before.1))
 
   -- the call was made, and the slot is at home again
   abbrev pub passed : Entry → Step E → Me E View → ℕ → Me E View → Type 0

@@ -2,7 +2,7 @@
 --
 -- The table has two words, `ticket` and `serving`, one slot with the executor, and the view of each seat. There is one
 -- history. It exists in this rule alone, and no thread stores it.
-use Rattle.std.specs.Prelude.{◌≡◌, ℕ, zero, suc, ◌+◌, ◌%◌, ◌^◌, ◌<◌, ◌≤◌, List, [], ◌∷◌, length, slice_index, IfSome, None, ltb, leb, ◌&&◌, if◌then◌else◌}
+use Rattle.std.specs.Prelude.{◌≡◌, ℕ, zero, suc, ◌+◌, ◌%◌, ◌^◌, ◌≤◌, List, [], ◌∷◌, length, slice_index, IfSome, None, ltb, leb, ◌&&◌, if◌then◌else◌}
 use Rattle.std.specs.List.{AllByRecursion}
 use mathlib.Core.Option.{Option, none, some}
 use lib.ListN.{get_elem?}

@@ -1,5 +1,5 @@
 -- What the tests' executor and their teams of threads keep.
-use Rattle.std.specs.Prelude.{◌≡◌, ℕ, ◌+◌, ◌≤◌, [], length, Some, None}
+use Rattle.std.specs.Prelude.{◌≡◌, ℕ, [], length, Some, None}
 use Rattle.arc_core.specs.CacheState.{CacheState, opening_state}
 use Rattle.turn_lock.specs.Seats.{SeatView}
 

@@ -1,5 +1,5 @@
 -- What a seat knows: its view. No code holds it.
-use Rattle.std.specs.Prelude.{◌≡◌, ℕ, ◌+◌, ◌≤◌, List, [], ◌∷◌, length, map, Some, None, Option, leb, if◌then◌else◌, ◌==◌}
+use Rattle.std.specs.Prelude.{ℕ, ◌+◌, List, [], ◌∷◌, length, map, Some, None, Option, leb, if◌then◌else◌, ◌==◌}
 use Rattle.arc_core.specs.CacheState.{CacheState, opening_state}
 use Rattle.arc_core.specs.History.{Entry}
 

@@ -5,16 +5,17 @@
 #![tactic(auto)]
 
 mod gate;
+mod laws;
 mod lock;
 mod moves;
 mod seats;
 mod steps;
-mod view;
-
 #[cfg(test)]
 mod tests;
 #[cfg(test)]
 mod vacant;
+mod view;
 
+pub use laws::{each_place_keeps_the_rules, legal_is_replayed};
 pub use lock::TurnLock;
 pub use seats::Seat;

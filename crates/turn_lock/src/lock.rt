@@ -94,10 +94,7 @@ impl<E: Executor + Drop> TurnLock<E> {
         ensures given { result ≡ split_seat seat.old }
     {
         Seat {
-            place: self
-                .board
-                .shared
-                .split_seat::<NewNumber>(&mut seat.place),
+            place: self.board.shared.split_seat::<NewNumber>(&mut seat.place),
         }
     }
 

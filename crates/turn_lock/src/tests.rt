@@ -7,19 +7,14 @@ use crate::vacant::Vacant;
 use crate::{Seat, TurnLock};
 use arc_core::{Act, Answer, Reply, Request, Word};
 use std::alloc::Global;
-use std::sync::{Arc, Wait};
 use std::sync::atomic::AtomicU64;
 use std::sync::atomic::Ordering::SeqCst;
+use std::sync::{Arc, Wait};
 use std::test::Fail;
 use std::thread::{Threads, join};
 
 // Asks for the version, which takes no memory.
-fn ask<R: Wait>(
-    rt: &R,
-    lock: &TurnLock<Vacant>,
-    seat: &mut Seat<Vacant>,
-    now: u32,
-) -> Reply
+fn ask<R: Wait>(rt: &R, lock: &TurnLock<Vacant>, seat: &mut Seat<Vacant>, now: u32) -> Reply
     requires { seat.old.lock ≡ lock.now }
     ensures { Stays seat.old seat.new }
 {

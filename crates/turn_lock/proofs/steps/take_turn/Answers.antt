@@ -1,4 +1,4 @@
-use Rattle.std.proofs.Common.{ap, arith, ◌∙◌}
+use Rattle.std.proofs.Common.{arith, ◌∙◌}
 use Rattle.turn_lock.proofs.Calling.{draws, looks}
 use Rattle.turn_lock.proofs.Waiting.{starts_waiting, waits_on, gets_turn, waiting_kind, waiting_free}
 use Rattle.turn_lock.proofs.steps.take_turn.Goals as goal

@@ -1,4 +1,4 @@
-use Rattle.std.proofs.Common.{ap, sym, subst, ◌∙◌, arith}
+use Rattle.std.proofs.Common.{ap, sym, ◌∙◌, arith}
 use Rattle.atomic_table.specs.Table.{Me}
 use Rattle.turn_lock.specs.Seats.{SeatView}
 use Rattle.turn_lock.specs.View.{View}

@@ -1,6 +1,4 @@
-use Rattle.std.proofs.Common.{◌≡◌, max, sym, ap, ◌∙◌, subst, inl}
-use Rattle.arc_core.specs.declared.replies.Reply.TheVariants as reply
-use Rattle.arc_core.specs.declared.replies.Word.TheVariants as word
+use Rattle.std.proofs.Common.{max, sym, ap, ◌∙◌, inl}
 use Rattle.arc_core.specs.declared.requests.Act.{Act}
 use Rattle.arc_core.specs.PlainRequest.{plain_act}
 use Rattle.arc_core.specs.Step.{step}
