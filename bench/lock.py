@@ -9,6 +9,7 @@ import os
 import re
 import resource
 import shutil
+import statistics
 import subprocess
 import sys
 
@@ -81,5 +82,69 @@ def make():
         )
 
 
+PROGRAM = os.path.join(SCRATCH, "crates", "lock_bench", "out", "lock_bench")
+# How often a step turns its number, which takes about 300 ns, and how often a thread does outside, about 700 ns.
+STEP = 200
+OUTSIDE = 470
+CALLS = 400_000
+RUNS = 7
+
+
+def build():
+    """Proves and builds the program."""
+    folder = os.path.join(SCRATCH, "crates", "lock_bench")
+    with open(os.path.join(SCRATCH, "build.log"), "w") as log:
+        subprocess.run(["rt", "run", "--", "bare", "1", "1", "0", "1"], cwd=folder, stdout=log, stderr=log, check=True)
+
+
+def run(mode, threads, step, outside, calls, *timed):
+    """Wall and processor time of a call in nanoseconds, and the longest call where it is timed."""
+    words = [PROGRAM, mode, *map(str, (threads, step, outside, calls)), *timed]
+    before = resource.getrusage(resource.RUSAGE_CHILDREN)
+    wall, longest = subprocess.run(words, capture_output=True, text=True, check=True).stdout.split()
+    after = resource.getrusage(resource.RUSAGE_CHILDREN)
+    seconds = after.ru_utime + after.ru_stime - before.ru_utime - before.ru_stime
+    made = threads * calls
+    return int(wall) / made, seconds * 1e9 / made, int(longest)
+
+
+def median_of(runs, place):
+    return statistics.median(run[place] for run in runs)
+
+
+def contention():
+    print("threads outside | lock ns, mutex ns, throughput ratio | processor ns, ratio | longest call ms: lock, mutex")
+    for outside in (0, OUTSIDE):
+        for threads in (1, 2, 4, 8, 32):
+            calls = CALLS // threads
+            runs = {"lock": [], "mutex": []}
+            for _ in range(RUNS):
+                for mode, results in runs.items():
+                    results.append(run(mode, threads, STEP, outside, calls))
+            wall = {mode: median_of(results, 0) for mode, results in runs.items()}
+            processor = {mode: median_of(results, 1) for mode, results in runs.items()}
+            longest = {mode: run(mode, threads, STEP, outside, calls // 4, "timed")[2] / 1e6 for mode in runs}
+            print(
+                f"{threads:7} {outside and '700 ns' or 'nothing':7} | {wall['lock']:6.0f} {wall['mutex']:6.0f} {wall['mutex'] / wall['lock']:5.2f} |"
+                f" {processor['lock']:6.0f} {processor['lock'] / processor['mutex']:5.2f} | {longest['lock']:6.1f} {longest['mutex']:6.1f}",
+                flush=True,
+            )
+
+
+def instructions(mode, calls):
+    words = ["valgrind", "--tool=callgrind", "--callgrind-out-file=/dev/null", PROGRAM, mode, "1", "0", "0", str(calls)]
+    return int(re.search(r"Collected : (\d+)", subprocess.run(words, capture_output=True, text=True, check=True).stderr).group(1))
+
+
+def alone():
+    """User-space instructions of a call without contention, more than those of its step."""
+    per_call = {mode: (instructions(mode, 101_000) - instructions(mode, 1_000)) / 100_000 for mode in ("bare", "lock", "mutex")}
+    print(f"instructions more than the step: lock {per_call['lock'] - per_call['bare']:.0f}, mutex {per_call['mutex'] - per_call['bare']:.0f}")
+
+
 if __name__ == "__main__":
     make()
+    build()
+    contention()
+    if shutil.which("valgrind"):
+        alone()

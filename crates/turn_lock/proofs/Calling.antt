@@ -10,7 +10,7 @@ use Rattle.arc_core.specs.CacheState.{CacheState}
 use Rattle.arc_core.specs.History.{Entry}
 use Rattle.atomic_table.specs.Table.{State, Me, Act, step, keeps, takes, gives, stepped, Valid, carried_after, homes_after, put_back, rest, Allows}
 use Rattle.atomic_table.proofs.Lists.{one_turn}
-use Rattle.turn_lock.specs.Calls.{Begins, LeadsTo}
+use Rattle.turn_lock.specs.Calls.{Begins, calls_of, LeadsTo, IsLegal}
 use Rattle.turn_lock.specs.View.{Kind, numbered, copy, spent, Turn, outside, waits, served, View, numbers_by, numbers_of, tickets_of, turns_of, times, total}
 use Rattle.turn_lock.specs.Rule.{Keeps, IsInTurn, IsNumbered, Fits, once_within, IsSlot, IsKept}
 use Rattle.turn_lock.specs.Moves.{waiting_as, is_next, its_turn, seen_as, served_as, passed_as, drawn, looked, passed, HoldsAfter}
@@ -67,6 +67,10 @@ in_turn_none : (history seen : List Entry) (t : Turn) (more : List Entry) → tu
 in_turn_none history seen outside more z = tt
 in_turn_none history seen (waits k) more z = tt
 in_turn_none history seen (served k) more z = absurd (omega arith)
+
+-- the history is legal from the state that the view has
+pub legal_from : (opening mine : CacheState) (history : List Entry) (current : CacheState) → mine ≡ opening → LeadsTo opening history current → IsLegal mine history
+legal_from opening mine history current same legal = (current, subst (λ (x : CacheState). LeadsTo x history current) (sym same) legal)
 
 within_most : (low high n : ℕ) → once_within low high n ≤ 1
 within_most low high n = elim (leb low n && ltb n high) as (λ b. cond b 1 0 ≤ 1) [ true ↦ omega arith | false ↦ omega arith ]
@@ -180,7 +184,7 @@ module _ {E : Type 0} (state_of : E → CacheState) where
         loaded s r id v w at (numbers_kept v.kind v w refl refl) refl s.homes
             (sees_whole s r v v.turn kind n (in_turn_whole r.history v.seen v.turn n.turn)) refl (λ t. refl)
             (subst (λ (c : ℕ). IsSlot state_of r.current c s.homes) (sym (total_same (λ u. turns_of u.turn) s.views id v w at refl)) r.slot),
-        (r.history, seen_more r.opening r.history r.next v n, subst (Looks me r.history (w, me.1)) (sym is) refl),
+        (r.history, seen_more r.opening r.history r.next v n, legal_from r.opening v.opening r.history r.current n.place.opening r.legal, subst (Looks me r.history (w, me.1)) (sym is) refl),
       )
   looks_by slots id me kind free s r at true is =
       let v : View = me.0 in let w : View = served_as v r.history in
@@ -207,6 +211,7 @@ module _ {E : Type 0} (state_of : E → CacheState) where
         (
           r.history,
           seen_more r.opening r.history r.next v n,
+          legal_from r.opening v.opening r.history r.current n.place.opening r.legal,
           subst (Looks me r.history (w, (0, slot.0) ∷ me.1)) (sym is)
               (slot.0, (λ i. (w, (0, slot.0) ∷ free i)), subst (λ (x : CacheState). LeadsTo x r.history (state_of slot.0)) (sym n.place.opening) (subst (LeadsTo r.opening r.history) (sym slot.2) r.legal)),
         ),

@@ -5,8 +5,8 @@ use Rattle.arc_core.specs.History.{Entry}
 use Rattle.atomic_table.specs.Seated.{TableId}
 use mathlib.Core.Option.{none}
 use Rattle.atomic_table.specs.Table.{Me, step}
-use Rattle.turn_lock.specs.Calls.{Begins, LeadsTo}
-use Rattle.turn_lock.specs.View.{outside, Turn, View, longer, shorter}
+use Rattle.turn_lock.specs.Calls.{Begins, calls_of, LeadsTo, IsLegal}
+use Rattle.turn_lock.specs.View.{numbered, outside, Turn, View, longer, shorter}
 use Rattle.turn_lock.specs.Moves.{is_next, served_as, seen_as, copied, first_register, joined_with, looked}
 use Rattle.turn_lock.specs.Seats.{SeatView, seat_view, IsMet}
 use Rattle.turn_lock.proofs.Histories.{begins_trans, first_begins, second_begins}
@@ -28,14 +28,14 @@ met_as lock v u history = λ i. record (seat_view lock v) { seen = history; ende
 
 module _ {E : Type 0} (state_of : E → CacheState) where
   pub met : (old other : SeatView) (lock lock' last : TableId) (v u : View) (copy joined after : Me E View) (held : List (ℕ × E)) (found : ℕ) → seat_view lock v ≡ old → seat_view lock' u ≡ other → last ≡ lock
-      → v.turn ≡ outside → copy ≡ (copied u, []) → joined ≡ (joined_with v copy.0, held) → looked state_of (step 0 0 0 0 none) joined found after → IsMet old other (seat_view last after.0)
-  met old other lock lock' last v u copy joined after held found is is' same free c j l =
+      → v.kind ≡ numbered → v.turn ≡ outside → copy ≡ (copied u, []) → joined ≡ (joined_with v copy.0, held) → looked state_of (step 0 0 0 0 none) joined found after → IsMet old other (seat_view last after.0)
+  met old other lock lock' last v u copy joined after held found is is' same kind free c j l =
       let w : View = joined_with v (copied u) in
       let at : joined ≡ (w, held) = j ∙ (λ i. (joined_with v ((c i).0), held)) in
       let k = subst (λ (m : Me E View). looked state_of (step 0 0 0 0 none) m found after) at l in
       let history = k.0 in
       let stays : is_next v.turn found ≡ false = ap (λ (t : Turn). is_next t found) free in
-      let now = subst (λ (b : Bool). MatchBool b ((executor : E) × (after ≡ (served_as w history, (0, executor) ∷ [])) × LeadsTo v.opening history (state_of executor)) (after ≡ (seen_as w history, held))) stays k.2 in
+      let now = subst (λ (b : Bool). MatchBool b ((executor : E) × (after ≡ (served_as w history, (0, executor) ∷ [])) × LeadsTo v.opening history (state_of executor)) (after ≡ (seen_as w history, held))) stays k.3 in
       let new : seat_view last after.0 ≡ record (seat_view lock v) { seen = history } = (λ i. seat_view (same i) ((now i).0)) ∙ met_as lock v u history in
       let view : seat_view last after.0 ≡ record old { seen = history } = new ∙ ap (λ (s : SeatView). record s { seen = history }) is in
       let seen : (seat_view last after.0).seen ≡ history = ap (λ (s : SeatView). s.seen) view in
@@ -45,4 +45,6 @@ module _ {E : Type 0} (state_of : E → CacheState) where
         seat = view ∙ (λ i. record old { seen = sym seen i });
         own = subst (λ (s : SeatView). Begins s.seen (seat_view last after.0).seen) is (subst (Begins v.seen) (sym seen) one);
         other = subst (λ (s : SeatView). Begins s.seen (seat_view last after.0).seen) is' (subst (Begins u.seen) (sym seen) two);
+        legal = subst (λ (s : SeatView). IsLegal s.opening (seat_view last after.0).seen) is (subst (IsLegal v.opening) (sym seen) k.2);
+        calls = subst (λ (s : SeatView). calls_of s.number (seat_view last after.0).seen ≡ s.mine) is (subst (λ (h : List Entry). calls_of v.number h ≡ v.mine) (sym seen) (k.1.own kind).1);
       }

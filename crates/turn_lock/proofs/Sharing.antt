@@ -10,14 +10,14 @@ use Rattle.arc_core.specs.CacheState.{CacheState}
 use Rattle.arc_core.specs.History.{Entry}
 use Rattle.atomic_table.specs.Table.{State, Me, step, keeps, Splits, Joins, Allows}
 use Rattle.atomic_table.proofs.Lists.{at_snoc, set_else}
-use Rattle.turn_lock.specs.Calls.{Begins, calls_of}
+use Rattle.turn_lock.specs.Calls.{Begins, calls_of, LeadsTo, IsLegal}
 use Rattle.turn_lock.specs.View.{Kind, numbered, copy, spent, Turn, outside, View, spent_view, numbers_by, numbers_of, tickets_of, turns_of, registers_of, times, total, longer}
 use Rattle.turn_lock.specs.Rule.{most_numbers, Keeps, IsInTurn, IsNumbered, Fits, once_within, IsSlot, IsKept}
 use Rattle.turn_lock.specs.Moves.{split_left, split_right, next_number, copied, handed_over, first_register, joined_with, recalled}
 use Rattle.turn_lock.proofs.Totals.{total_set, total_snoc, total_same, total_two, times-append, times_yes, times_no, within_yes, within_above}
-use Rattle.turn_lock.proofs.Histories.{begins_itself, shorter_begins, longer_begins, first_begins, second_begins, calls_between, calls_before, all_keep, all_append}
+use Rattle.turn_lock.proofs.Histories.{begins_itself, shorter_begins, longer_begins, first_begins, second_begins, calls_between, calls_before, all_keep, all_append, each_place}
 use Rattle.turn_lock.proofs.Keeping.{as_numbered, of_numbered, numbers_kept, own_numbers, all_fit}
-use Rattle.turn_lock.proofs.Calling.{loaded}
+use Rattle.turn_lock.proofs.Calling.{loaded, legal_from}
 
 -- one number more is given
 pub once_more : (n t : ℕ) → once_within 0 n t + times t (n ∷ []) ≡ once_within 0 (n + 1) t
@@ -69,6 +69,12 @@ total_joined : (f : View → ℕ) (views : List View) (id other : ℕ) (v w both
     → f both ≡ f v + f w → f spent_view ≡ 0 → total f (set (set views id both) other spent_view) ≡ total f views
 total_joined f views id other v w both at there sum zero_spent =
     let a = total_set f views id v both at in let b = total_set f (set views id both) other w spent_view there in omega arith
+
+-- a beginning of a legal history is legal
+seen_legal : (opening mine : CacheState) (seen history : List Entry) (current : CacheState) → mine ≡ opening → Begins seen history → LeadsTo opening history current → IsLegal mine seen
+seen_legal opening mine seen history current same front legal =
+    let m = each_place opening seen front.0 current (subst (λ (h : List Entry). LeadsTo opening h current) front.1 legal) in
+    legal_from opening mine seen m.0 same m.1
 
 module _ {E : Type 0} (state_of : E → CacheState) where
   abbrev R : State E View → Type 0
@@ -232,5 +238,5 @@ module _ {E : Type 0} (state_of : E → CacheState) where
         tt,
         loaded state_of s r id v v at refl refl s.homes (r.fits id v at) refl (λ t. refl)
             (subst (λ (c : ℕ). IsSlot state_of r.current c s.homes) (sym (total_same (λ u. turns_of u.turn) s.views id v v at refl)) r.slot),
-        (refl, f.place.told),
+        (refl, f.place.told, seen_legal r.opening v.opening v.seen r.history r.current f.place.opening f.place.seen r.legal),
       )

@@ -55,14 +55,14 @@ module _ {E : Type 0} (state_of : E → CacheState) where
         ticket = w.ticket;
         sees = sees_on view w.history k.0 w.ticket w.sees k.1;
         is = w.is;
-        holds = subst (λ (b : Bool). MatchBool b ((executor : E) × (after ≡ (record view { seen = k.0; turn = served w.ticket }, (0, executor) ∷ [])) × LeadsTo view.opening k.0 (state_of executor)) (after ≡ (waiting_at view k.0 w.ticket, []))) no k.2;
+        holds = subst (λ (b : Bool). MatchBool b ((executor : E) × (after ≡ (record view { seen = k.0; turn = served w.ticket }, (0, executor) ∷ [])) × LeadsTo view.opening k.0 (state_of executor)) (after ≡ (waiting_at view k.0 w.ticket, []))) no k.3;
       }
 
   pub gets_turn : (view : View) (word found : ℕ) (now after : Me E View) → StillWaits view word now → looked state_of any now found after → found ≡ word → HasTurn state_of view after
   gets_turn view word found now after w l same =
       let k = look_at view word found now after w l in
       let yes : is_next (waits w.ticket) found ≡ true = eq-eqb found (w.ticket % 2 ^ 64) (same ∙ w.is) in
-      let t = subst (λ (b : Bool). MatchBool b ((executor : E) × (after ≡ (record view { seen = k.0; turn = served w.ticket }, (0, executor) ∷ [])) × LeadsTo view.opening k.0 (state_of executor)) (after ≡ (waiting_at view k.0 w.ticket, []))) yes k.2 in record {
+      let t = subst (λ (b : Bool). MatchBool b ((executor : E) × (after ≡ (record view { seen = k.0; turn = served w.ticket }, (0, executor) ∷ [])) × LeadsTo view.opening k.0 (state_of executor)) (after ≡ (waiting_at view k.0 w.ticket, []))) yes k.3 in record {
         history = k.0;
         ticket = w.ticket;
         executor = t.0;

@@ -4,7 +4,7 @@ use Rattle.std.specs.Option.{option_map}
 use Rattle.arc_core.specs.CacheState.{CacheState}
 use Rattle.arc_core.specs.History.{Entry}
 use Rattle.atomic_table.specs.Table.{Me, Step}
-use Rattle.turn_lock.specs.Calls.{Begins, calls_of, LeadsTo}
+use Rattle.turn_lock.specs.Calls.{Begins, calls_of, LeadsTo, IsLegal}
 use Rattle.turn_lock.specs.View.{Kind, numbered, copy, spent, Turn, outside, waits, served, View, longer, shorter}
 
 -- the ticket is noted
@@ -83,11 +83,11 @@ module _ {E : Type 0} where
   drawn step before found after =
       (ticket : ℕ) × (found ≡ ticket % 2 ^ 64) × (after ≡ (waiting_as before.0 ticket, before.1)) × SeesMore before.0 before.0.seen
 
-  -- The history so far was seen. Where the ticket is the one that is served, the seat has the turn, and holds the slot
+  -- The history so far, which is legal, was seen. Where the ticket is the one that is served, the seat has the turn, and holds the slot
   -- with an executor that stands for the state after that history.
   abbrev pub looked : (E → CacheState) → Step E → Me E View → ℕ → Me E View → Type 0
   looked state_of step before found after =
-      (history : List Entry) × SeesMore before.0 history
+      (history : List Entry) × SeesMore before.0 history × IsLegal before.0.opening history
       × MatchBool (is_next before.0.turn found)
       ((executor : E) × (after ≡ (served_as before.0 history, (0, executor) ∷ [])) × LeadsTo before.0.opening history (state_of executor))
       (after ≡ (seen_as before.0 history, before.1))
@@ -97,9 +97,9 @@ module _ {E : Type 0} where
   passed entry step before found after =
       (after ≡ (passed_as before.0 entry, [])) × (calls_of before.0.number (before.0.seen ++ entry ∷ []) ≡ before.0.mine ++ entry ∷ [])
 
-  -- nothing changed; what was told is a beginning of what was seen
+  -- nothing changed; what was told is a beginning of what was seen, which is legal
   abbrev pub recalled : Step E → Me E View → ℕ → Me E View → Type 0
-  recalled step before found after = (after ≡ before) × Begins before.0.told before.0.seen
+  recalled step before found after = (after ≡ before) × Begins before.0.told before.0.seen × IsLegal before.0.opening before.0.seen
 
   -- The seat has the turn. It has seen the history so far, and holds the executor, which stands for the state after it.
   pub record HasTurn (state_of : E → CacheState) (view : View) (now : Me E View) : Type 0 where

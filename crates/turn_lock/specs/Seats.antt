@@ -80,11 +80,13 @@ joined_seat seat other =
       register = first_register seat.register other.register;
     }
 
--- the seat has seen this history, in which both histories are beginnings
+-- The seat has seen a legal history, of which both histories are beginnings. Of the seat it has the seat's own calls.
 pub record IsMet (old : SeatView) (met : SeatView) (new : SeatView) : Type 0 where
   pub seat : new ≡ record old { seen = new.seen }
   pub own : Begins old.seen new.seen
   pub other : Begins met.seen new.seen
+  pub legal : IsLegal old.opening new.seen
+  pub calls : calls_of old.number new.seen ≡ old.mine
 
 -- the numbers that are with a seat
 abbrev pub numbers_with : SeatView → List ℕ

@@ -3,7 +3,7 @@ ghost use Rattle.std.specs.Prelude.{◌≡◌, ◌<◌, ◌^◌, length, IfOk, I
 ghost use Rattle.arc_core.specs.Grammar.{CanBeSpelled};
 ghost use Rattle.arc_core.specs.PlainRequest.{plain};
 ghost use Rattle.arc_core.specs.ReplyText.{reply_text};
-ghost use Rattle.turn_lock.specs.Calls.{Begins};
+ghost use Rattle.turn_lock.specs.Calls.{Begins, IsLegal};
 ghost use Rattle.turn_lock.specs.Seats.{first_seat, entry_of, IsCalled, CanSplit, after_split, split_seat, joined_seat, IsMet, HasAll, IsWhole};
 
 use crate::gate::Gate;
@@ -105,6 +105,7 @@ impl<E: Executor + Drop> TurnLock<E> {
         ensures joined { seat.new ≡ joined_seat seat.old other }
         ensures own { Begins seat.old.seen seat.new.seen }
         ensures other { Begins other.seen seat.new.seen }
+        ensures legal { IsLegal seat.new.opening seat.new.seen }
     {
         let steps = &self.board.shared;
         let Seat { place: other } = other;

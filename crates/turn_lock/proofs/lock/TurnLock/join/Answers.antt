@@ -1,4 +1,5 @@
-use Rattle.std.proofs.Common.{ap, sym, ◌∙◌, arith}
+use Rattle.std.proofs.Common.{ap, sym, subst, ◌∙◌, arith}
+use Rattle.turn_lock.specs.Calls.{IsLegal}
 use Rattle.atomic_table.specs.Table.{Me}
 use Rattle.turn_lock.specs.Seats.{SeatView}
 use Rattle.turn_lock.specs.View.{View}
@@ -22,3 +23,6 @@ load-requires g c =
       omega arith,
       recalls g.E.Executor.state _ _ c.join_seat.new.seat.me (ap (λ (m : Me g.row.E.Denot View). m.0.kind) c.join_seat.ensures.2 ∙ c.seat.invariant.0),
     )
+
+pub returns-clause-legal : goal.returns-clause-legal
+returns-clause-legal g c = subst (λ (m : Me g.row.E.Denot View). IsLegal m.0.opening m.0.seen) (sym c.load.ensures.2.0) c.load.ensures.2.2

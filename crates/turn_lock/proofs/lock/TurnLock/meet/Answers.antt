@@ -39,4 +39,4 @@ pub returns-clause-met : goal.returns-clause-met
 returns-clause-met g c =
     met g.E.Executor.state c.args.seat.now c.args.other.now c.seat.inside.place.table_id c.other.inside.place.table_id c.load.new.seat.table_id c.seat.inside.place.me.0 c.other.inside.place.me.0
     c.split_seat-copy.result.me c.join_seat.new.seat.me c.load.new.seat.me c.seat.inside.place.me.1 c.load.result c.seat.view_is c.other.view_is (c.load.ensures.0 ∙ c.join_seat.ensures.0)
-    c.seat.invariant.1 c.split_seat-copy.ensures.4 c.join_seat.ensures.2 c.load.ensures.2
+    c.seat.invariant.0 c.seat.invariant.1 c.split_seat-copy.ensures.4 c.join_seat.ensures.2 c.load.ensures.2
