@@ -6,12 +6,13 @@ use Rattle.std.specs.Ordering.{nat_cmp}
 use Rattle.std.specs.Cmp.Lexicographic.{slice_cmp}
 use Rattle.std.specs.FinMap as finite
 use Rattle.std.proofs.lemmas.List.{nil_from_length}
-use Rattle.arc_core.specs.Places.{Places, HasEachKeyOnce, empty_places, found, others, touched, placed, refilled, without, weight_of, total_of}
+use Rattle.arc_core.specs.Places.{Places, HasEachKeyOnce, empty_places, found, others, brought_to_front, placed, refilled, without, weight_of, total_of}
 use Rattle.arc_core.specs.Room.{evicted, survivors}
 use Rattle.byte_account.specs.Accounting.{IsAccounted}
-use Rattle.byte_account.specs.Weight.{place_weight}
-use Rattle.byte_account.proofs.ShelfLists.{IsDistinct-nil, weight_under, set_value-absent}
-use Rattle.byte_account.proofs.PlacesLaws.{absent_from_shelf, absent_from_sticky, found-shelf, found-sticky, not_on_shelf, placed-new_sticky, placed-new_listed, placed-moved_sticky, placed-moved_listed, HasEachKeyOnce-touched, HasEachKeyOnce-placed, HasEachKeyOnce-refilled, HasEachKeyOnce-without, HasEachKeyOnce-evicted, total-touched, total-placed, total-refilled, total-without}
+use Rattle.byte_account.specs.ShelfWords.{listed_at, stuck_at}
+use Rattle.byte_account.specs.Weight.{place_weight, weight_under}
+use Rattle.byte_account.proofs.ShelfLists.{IsDistinct-nil, set_value-absent}
+use Rattle.byte_account.proofs.PlacesLaws.{absent_from_shelf, absent_from_sticky, found-shelf, found-sticky, not_on_shelf, placed-new, placed-moved_sticky, placed-moved_listed, HasEachKeyOnce-brought_to_front, HasEachKeyOnce-placed, HasEachKeyOnce-refilled, HasEachKeyOnce-without, HasEachKeyOnce-evicted, total-brought_to_front, total-placed, total-refilled, total-without}
 
 module _ {X : Type 0} where
   -- where the key has no place, there is none to refill
@@ -20,7 +21,7 @@ module _ {X : Type 0} where
       let on_shelf = set_value-absent (bytes_eq key) places.shelf x (absent_from_shelf key places absent) in
       let in_sticky : cond (finite.contains_key places.sticky key) (finite.insert places.sticky key x) places.sticky ≡ places.sticky =
       ap (λ o. cond (is_some o) (finite.insert places.sticky key x) places.sticky) (absent_from_sticky key places absent) in
-      λ i. record { shelf = on_shelf i; sticky = in_sticky i; limit = places.limit }
+      λ i. record { shelf = on_shelf i; sticky = in_sticky i; limit = places.limit; share = places.share }
 
   same_limit : (sticky : Bool) (key : List ℕ) (x : X) (places : Places X) → (placed sticky key x places).limit ≡ places.limit
   same_limit true key x places = refl
@@ -30,14 +31,17 @@ module _ {X : Type 0} (weigh : List ℕ → X → ℕ) where
   entries-empty : finite.entries (finite.empty {X = X} {R = slice_cmp nat_cmp}) ≡ []
   entries-empty = nil_from_length (finite.entries (finite.empty {X = X} {R = slice_cmp nat_cmp})) (sym (finite.len-entries finite.empty) ∙ finite.len-empty (slice_cmp nat_cmp) X)
 
-  pub HasEachKeyOnce-empty : (limit : ℕ) → HasEachKeyOnce {X = X} (empty_places limit)
-  HasEachKeyOnce-empty limit = record { on_shelf = IsDistinct-nil bytes_eq; on_one_side = λ key there. absurd (cc) }
+  pub weight-empty : weight_of weigh (finite.entries (finite.empty {X = X} {R = slice_cmp nat_cmp})) ≡ 0
+  weight-empty = ap (weight_of weigh) entries-empty
 
-  pub IsAccounted-empty : (limit : ℕ) → IsAccounted weigh (empty_places limit) 0
-  IsAccounted-empty limit =
-      let none : weight_of weigh (finite.entries (finite.empty {X = X} {R = slice_cmp nat_cmp})) ≡ 0 = ap (weight_of weigh) entries-empty in
-      let sum : 0 ≡ total_of weigh (empty_places limit) = omega arith in
-      record { sum = sum; within = omega arith; once = HasEachKeyOnce-empty limit }
+  pub HasEachKeyOnce-empty : (limit share : ℕ) → HasEachKeyOnce {X = X} (empty_places limit share)
+  HasEachKeyOnce-empty limit share = record { on_shelf = IsDistinct-nil bytes_eq; on_one_side = λ key there. absurd (cc) }
+
+  pub IsAccounted-empty : (limit share : ℕ) → IsAccounted weigh (empty_places limit share) 0
+  IsAccounted-empty limit share =
+      let none : weight_of weigh (finite.entries (finite.empty {X = X} {R = slice_cmp nat_cmp})) ≡ 0 = weight-empty in
+      let sum : 0 ≡ total_of weigh (empty_places limit share) = omega arith in
+      record { sum = sum; within = omega arith; once = HasEachKeyOnce-empty limit share }
 
   module _ (places new : Places X) (total : ℕ) (accounted : IsAccounted weigh places total) (once : HasEachKeyOnce new) (same_limit : new.limit ≡ places.limit) where
     -- the total stays
@@ -60,9 +64,9 @@ module _ {X : Type 0} (weigh : List ℕ → X → ℕ) where
         let was : total ≡ total_of weigh places = accounted.sum in
         record { sum = omega arith; within = omega arith; once = once }
 
-  pub IsAccounted-touched : (key : List ℕ) (places : Places X) (total : ℕ) → IsAccounted weigh places total → IsAccounted weigh (touched key places) total
-  IsAccounted-touched key places total accounted =
-      IsAccounted-same places (touched key places) total accounted (HasEachKeyOnce-touched key places accounted.once) refl (total-touched weigh key places accounted.once)
+  pub IsAccounted-brought_to_front : (key : List ℕ) (places : Places X) (total : ℕ) → IsAccounted weigh places total → IsAccounted weigh (brought_to_front key places) total
+  IsAccounted-brought_to_front key places total accounted =
+      IsAccounted-same places (brought_to_front key places) total accounted (HasEachKeyOnce-brought_to_front key places accounted.once) refl (total-brought_to_front weigh key places accounted.once)
 
   -- a new place that weighs nothing
   pub IsAccounted-reserved : (sticky : Bool) (key : List ℕ) (x : X) (places : Places X) (total : ℕ) → IsAccounted weigh places total → found key places ≡ None → weigh key x ≡ 0 → IsAccounted weigh (placed sticky key x places) total
@@ -121,22 +125,19 @@ module _ {X : Type 0} (weigh : List ℕ → X → ℕ) where
 
 module _ {X : Type 0} (weigh : List ℕ → X → ℕ) (key : List ℕ) (x : X) (places new : Places X) (total : ℕ) where
   -- the new places, told by their parts
-  pub IsAccounted-new_sticky : IsAccounted weigh places total → found key places ≡ None → weigh key x ≡ 0 → new.shelf ≡ places.shelf → new.sticky ≡ finite.insert places.sticky key x → new.limit ≡ places.limit → IsAccounted weigh new total
-  IsAccounted-new_sticky accounted absent none shelf sticky limit =
-      subst (λ p. IsAccounted weigh p total) (sym (placed-new_sticky key x places new absent shelf sticky limit)) (IsAccounted-reserved weigh true key x places total accounted absent none)
+  pub IsAccounted-new : (sticky : Bool) → IsAccounted weigh places total → found key places ≡ None → weigh key x ≡ 0 → new.shelf ≡ listed_at sticky key x places.shelf → new.sticky ≡ stuck_at sticky key x places.sticky
+      → new.limit ≡ places.limit → new.share ≡ places.share → IsAccounted weigh new total
+  IsAccounted-new sticky accounted absent none shelf table limit share =
+      subst (λ p. IsAccounted weigh p total) (sym (placed-new sticky key x places new absent shelf table limit share)) (IsAccounted-reserved weigh sticky key x places total accounted absent none)
 
-  pub IsAccounted-new_listed : IsAccounted weigh places total → found key places ≡ None → weigh key x ≡ 0 → new.shelf ≡ (key, x) ∷ places.shelf → new.sticky ≡ places.sticky → new.limit ≡ places.limit → IsAccounted weigh new total
-  IsAccounted-new_listed accounted absent none shelf sticky limit =
-      subst (λ p. IsAccounted weigh p total) (sym (placed-new_listed key x places new absent shelf sticky limit)) (IsAccounted-reserved weigh false key x places total accounted absent none)
+  pub IsAccounted-moved_sticky : IsAccounted weigh places total → lookup (bytes_eq key) places.shelf ≡ Some x → new.shelf ≡ others key places.shelf → new.sticky ≡ finite.insert places.sticky key x → new.limit ≡ places.limit → new.share ≡ places.share → IsAccounted weigh new total
+  IsAccounted-moved_sticky accounted held shelf sticky limit share =
+      subst (λ p. IsAccounted weigh p total) (sym (placed-moved_sticky key x places new shelf sticky limit share)) (IsAccounted-restuck weigh true key x places total accounted (found-shelf key places x held))
 
-  pub IsAccounted-moved_sticky : IsAccounted weigh places total → lookup (bytes_eq key) places.shelf ≡ Some x → new.shelf ≡ others key places.shelf → new.sticky ≡ finite.insert places.sticky key x → new.limit ≡ places.limit → IsAccounted weigh new total
-  IsAccounted-moved_sticky accounted held shelf sticky limit =
-      subst (λ p. IsAccounted weigh p total) (sym (placed-moved_sticky key x places new shelf sticky limit)) (IsAccounted-restuck weigh true key x places total accounted (found-shelf key places x held))
-
-  pub IsAccounted-moved_listed : IsAccounted weigh places total → finite.get places.sticky key ≡ Some x → new.shelf ≡ (key, x) ∷ places.shelf → new.sticky ≡ finite.remove places.sticky key → new.limit ≡ places.limit → IsAccounted weigh new total
-  IsAccounted-moved_listed accounted held shelf sticky limit =
+  pub IsAccounted-moved_listed : IsAccounted weigh places total → finite.get places.sticky key ≡ Some x → new.shelf ≡ (key, x) ∷ places.shelf → new.sticky ≡ finite.remove places.sticky key → new.limit ≡ places.limit → new.share ≡ places.share → IsAccounted weigh new total
+  IsAccounted-moved_listed accounted held shelf sticky limit share =
       let absent = not_on_shelf places accounted.once key (ap is_some held) in
-      subst (λ p. IsAccounted weigh p total) (sym (placed-moved_listed key x places new absent shelf sticky limit)) (IsAccounted-restuck weigh false key x places total accounted (found-sticky key places absent ∙ held))
+      subst (λ p. IsAccounted weigh p total) (sym (placed-moved_listed key x places new absent shelf sticky limit share)) (IsAccounted-restuck weigh false key x places total accounted (found-sticky key places absent ∙ held))
 
 -- a place's weight by its item
 pub weight_of_item : {T : Type 0} (weigh : List ℕ → T → ℕ) (key : List ℕ) (place : Option (Option T)) (item : T) → Some item ≡ option_flatten place → weight_under (place_weight weigh) key place ≡ weigh key item

@@ -60,11 +60,5 @@ module _ {X : Type 0} (weigh : List ℕ → X → ℕ) (key : List ℕ) where
   kept_after n places (negsuc less) few kept = le-leb _ _ (omega (arith, total-evicted n places few, leb-true _ _ kept))
 
   -- evicting what room says makes the room
-  pub evicted_makes_room : (n : ℕ) (places : Places X) (extra : ℤ) → IsLeastEviction weigh places key extra (Fits n) → fits places.limit (total_of weigh (evicted key n places)) extra 0 ≡ true
-  evicted_makes_room n places extra least = kept_after n places extra least.0 least.1
-
-  -- where room asks for no eviction, there is room at once
-  pub room_at_once : (places : Places X) (extra : ℕ) → IsLeastEviction weigh places key (pos extra) (Fits 0) → total_of weigh places + extra ≤ places.limit
-  room_at_once places extra least =
-      let none : weight_of weigh (last_of 0 (others key places.shelf)) ≡ 0 = ap (weight_of weigh) (drop_all (length (others key places.shelf) - 0) (others key places.shelf) (omega arith)) in
-      omega (arith, leb-true _ _ least.1)
+  pub evicted_makes_room : (n : ℕ) (places : Places X) (extra sticky_extra : ℤ) → IsLeastEviction weigh places key extra sticky_extra (Fits n) → fits places.limit (total_of weigh (evicted key n places)) extra 0 ≡ true
+  evicted_makes_room n places extra sticky_extra least = kept_after n places extra least.count least.enough

@@ -2,8 +2,8 @@
 use Rattle.std.proofs.Common.{◌≡◌, ℕ, suc, ◌+◌, ◌-◌, ◌<◌, ◌≤◌, true, false, cond, not, ◌||◌, List, [], ◌∷◌, ◌++◌, length, take, drop, get_or, slice_get, Option, Some, None, IsSome, bytes_eq, nat_le, refl, sym, ap, ◌∙◌, subst, inl, inr, arith}
 use Rattle.std.specs.Option.{option_map_or, option_or}
 use Rattle.std.specs.Map.{lookup}
-use Rattle.std.proofs.lemmas.List.{append-nil, append_assoc, take_all, take_more, take-map, take-append-drop, map-append, length-append, length-map}
-use Rattle.std.proofs.lemmas.List.Sums.{sum_by_push, sum_by-append}
+use Rattle.std.proofs.lemmas.List.{append-nil, append_assoc, take_all, take_more, take-map, take-append-drop, map-append, length-append, length-map, take-take, length-take-le}
+use Rattle.std.proofs.lemmas.List.Sums.{sum_by_push, sum_by-append, sum_by-take-drop}
 use Rattle.std.proofs.lemmas.Option.{get_or_from_slice_get, slice_get_within, slice_get_cases}
 use Rattle.std.proofs.lemmas.Bool.{le-leb, cases_lt}
 use Rattle.std.proofs.Math.Bool.{or-true}
@@ -13,7 +13,8 @@ use Rattle.arc_core.specs.Places.{others, to_front, weight_of}
 use Rattle.arc_core.specs.Room.{survivors}
 use Rattle.byte_account.specs.ByBytes.{by_bytes, entry_by_bytes}
 use Rattle.byte_account.specs.Eviction.{is_last, to_back, PopsDownTo}
-use Rattle.byte_account.proofs.ShelfLists.{AreApart-cons, AreApart-tail, IsAbsent-head, IsAbsent, IsAbsent-front, IsAbsent-before, AreApart-front, weight-others, weight_under, lookup-append, AreApart, IsAbsent-back, IsAbsent-differs, others-append, others-absent, weight-cons, same_key, own_key, AreApart-to_front, weight-to_front}
+use Rattle.byte_account.specs.Weight.{weight_under}
+use Rattle.byte_account.proofs.ShelfLists.{AreApart-cons, AreApart-tail, IsAbsent-head, IsAbsent, IsAbsent-front, IsAbsent-before, AreApart-front, weight-others, lookup-append, AreApart, IsAbsent-back, IsAbsent-differs, others-append, others-absent, weight-cons, same_key, own_key, AreApart-to_front, weight-to_front}
 
 pub lt-leb-false : (a b : ℕ) → a < b → nat_le b a ≡ false
 lt-leb-false a b h = grind (arith, nat_tests)
@@ -253,3 +254,16 @@ module _ {X : Type 0} where
         | true ↦ AreApart-cons place.0 place.1 (survivors key n older) (IsAbsent-survivors key n place.0 older (IsAbsent-head place older apart)) rest
         | false ↦ rest
       ]
+
+module _ {X : Type 0} (weigh : List ℕ → X → ℕ) where
+  -- the places of a list but its last n weigh no more than those that are left before all n are gone
+  pub pop_small : (n i : ℕ) (initial now next : List (List ℕ × X)) → now ≡ take (length initial - i) initial → next ≡ take (length now - 1) now → i < n → weight_of weigh (take (length initial - n) initial) ≤ weight_of weigh next
+  pop_small n i initial now next now_is next_is more =
+      let k = length initial - n in
+      let some : length now ≡ length initial - i = ap length now_is ∙ length-take-le (length initial - i) initial (omega arith) in
+      let same : take k next ≡ take k initial = ap (take k) next_is ∙ take-take k (length now - 1) now (omega arith) ∙ ap (take k) now_is ∙ take-take k (length initial - i) initial (omega arith) in
+      omega (arith, ap (weight_of weigh) same, sum_by-take-drop (λ (p : List ℕ × X). weigh p.0 p.1) next k)
+
+  -- a list weighs what its last n weigh, and those before them
+  pub weight-last : (n : ℕ) (shelf : List (List ℕ × X)) → weight_of weigh (take (length shelf - n) shelf) + weight_of weigh (drop (length shelf - n) shelf) ≡ weight_of weigh shelf
+  weight-last n shelf = sum_by-take-drop (λ (p : List ℕ × X). weigh p.0 p.1) shelf (length shelf - n)

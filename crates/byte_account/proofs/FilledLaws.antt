@@ -9,8 +9,8 @@ use Rattle.std.specs.FinMap.Entries.{below_all}
 use Rattle.std.specs.FinMap.{FinMap, is_sorted, find}
 use Rattle.std.specs.FinMap as finite
 use Rattle.std.proofs.lemmas.List.{length-map}
-use Rattle.arc_core.specs.Places.{Places, HasEachKeyOnce, found, others, count_of, to_front, shelved, touched, placed, refilled, without, weight_of, total_of}
-use Rattle.arc_core.specs.Room.{shortest_suffix, survivors, evicted, fits, room}
+use Rattle.arc_core.specs.Places.{Places, HasEachKeyOnce, found, others, count_of, to_front, shelved, brought_to_front, placed, refilled, without, weight_of, total_of, sticky_total_of}
+use Rattle.arc_core.specs.Room.{shortest_suffix, survivors, evicted, fits, share_fits, least_eviction, room}
 use Rattle.byte_account.specs.declared.room.Room.TheVariants.{Fits}
 use Rattle.byte_account.specs.ShelfWords.{room_answer}
 use Rattle.byte_account.specs.Filled.{map_listed, map_values, map_places, filled, items_listed, items_of, IsFilled}
@@ -108,23 +108,26 @@ module _ {X Y : Type 0} (f : X → Y) where
       ap (λ o. option_or o (finite.get (map_values f places.sticky) key)) (lookup-map key places.shelf) ∙ ap (option_or (option_map f (lookup (bytes_eq key) places.shelf))) (get-map_values places.sticky key)
       ∙ found_by (lookup (bytes_eq key) places.shelf) (finite.get places.sticky key)
 
+  pub sticky_total-map : (weigh : List ℕ → Y → ℕ) (places : Places X) → sticky_total_of weigh (map_places f places) ≡ sticky_total_of (λ key x. weigh key (f x)) places
+  sticky_total-map weigh places = ap (weight_of weigh) (entries-map_values places.sticky) ∙ weight-map weigh (finite.entries places.sticky)
+
   pub total-map : (weigh : List ℕ → Y → ℕ) (places : Places X) → total_of weigh (map_places f places) ≡ total_of (λ key x. weigh key (f x)) places
   total-map weigh places =
       ap (λ n. n + weight_of weigh (finite.entries (map_values f places.sticky))) (weight-map weigh places.shelf)
-      ∙ ap (λ n. weight_of (λ key x. weigh key (f x)) places.shelf + n) (ap (weight_of weigh) (entries-map_values places.sticky) ∙ weight-map weigh (finite.entries places.sticky))
+      ∙ ap (λ n. weight_of (λ key x. weigh key (f x)) places.shelf + n) (sticky_total-map weigh places)
 
-  pub touched-map : (key : List ℕ) (places : Places X) → touched key (map_places f places) ≡ map_places f (touched key places)
-  touched-map key places = λ i. record { shelf = to_front-map key places.shelf i; sticky = map_values f places.sticky; limit = places.limit }
+  pub touched-map : (key : List ℕ) (places : Places X) → brought_to_front key (map_places f places) ≡ map_places f (brought_to_front key places)
+  touched-map key places = λ i. record { shelf = to_front-map key places.shelf i; sticky = map_values f places.sticky; limit = places.limit; share = places.share }
 
   pub placed-map : (sticky : Bool) (key : List ℕ) (x : X) (places : Places X) → placed sticky key (f x) (map_places f places) ≡ map_places f (placed sticky key x places)
-  placed-map true key x places = λ i. record { shelf = others-map key places.shelf i; sticky = sym (map_values-insert places.sticky key x) i; limit = places.limit }
-  placed-map false key x places = λ i. record { shelf = shelved-map key x places.shelf i; sticky = sym (map_values-remove places.sticky key) i; limit = places.limit }
+  placed-map true key x places = λ i. record { shelf = others-map key places.shelf i; sticky = sym (map_values-insert places.sticky key x) i; limit = places.limit; share = places.share }
+  placed-map false key x places = λ i. record { shelf = shelved-map key x places.shelf i; sticky = sym (map_values-remove places.sticky key) i; limit = places.limit; share = places.share }
 
   pub without-map : (key : List ℕ) (places : Places X) → without key (map_places f places) ≡ map_places f (without key places)
-  without-map key places = λ i. record { shelf = others-map key places.shelf i; sticky = sym (map_values-remove places.sticky key) i; limit = places.limit }
+  without-map key places = λ i. record { shelf = others-map key places.shelf i; sticky = sym (map_values-remove places.sticky key) i; limit = places.limit; share = places.share }
 
   pub evicted-map : (key : List ℕ) (n : ℕ) (places : Places X) → evicted key n (map_places f places) ≡ map_places f (evicted key n places)
-  evicted-map key n places = λ i. record { shelf = survivors-map key n places.shelf i; sticky = map_values f places.sticky; limit = places.limit }
+  evicted-map key n places = λ i. record { shelf = survivors-map key n places.shelf i; sticky = map_values f places.sticky; limit = places.limit; share = places.share }
 
   refilled_at : (key : List ℕ) (x : X) (m : FinMap (slice_cmp nat_cmp) X) (o : Option X) → cond (is_some (option_map f o)) (finite.insert (map_values f m) key (f x)) (map_values f m) ≡ map_values f (cond (is_some o) (finite.insert m key x) m)
   refilled_at key x m None = refl
@@ -134,7 +137,7 @@ module _ {X Y : Type 0} (f : X → Y) where
   refilled-map key x places =
       let in_sticky : cond (finite.contains_key (map_values f places.sticky) key) (finite.insert (map_values f places.sticky) key (f x)) (map_values f places.sticky) ≡ map_values f (cond (finite.contains_key places.sticky key) (finite.insert places.sticky key x) places.sticky) =
       ap (λ o. cond (is_some o) (finite.insert (map_values f places.sticky) key (f x)) (map_values f places.sticky)) (get-map_values places.sticky key) ∙ refilled_at key x places.sticky (finite.get places.sticky key) in
-      λ i. record { shelf = set_value-map key x places.shelf i; sticky = in_sticky i; limit = places.limit }
+      λ i. record { shelf = set_value-map key x places.shelf i; sticky = in_sticky i; limit = places.limit; share = places.share }
 
   pub count-map : (places : Places X) → count_of (map_places f places) ≡ count_of places
   count-map places =
@@ -175,21 +178,26 @@ suffix_map g enough (x ∷ xs) =
     ∙ or_map (map g) (shortest_suffix (λ suffix. enough (map g suffix)) xs) (cond (enough (g x ∷ map g xs)) (Some (x ∷ xs)) None)
 
 module _ {X Y : Type 0} (f : X → Y) where
-  pub room-map : (weigh : List ℕ → Y → ℕ) (places : Places X) (key : List ℕ) (extra : ℤ) → room weigh (map_places f places) key extra ≡ option_map (map_listed f) (room (λ k x. weigh k (f x)) places key extra)
-  room-map weigh places key extra =
+  least_eviction-map : (weigh : List ℕ → Y → ℕ) (places : Places X) (key : List ℕ) (extra : ℤ) → least_eviction weigh (map_places f places) key extra ≡ option_map (map_listed f) (least_eviction (λ k x. weigh k (f x)) places key extra)
+  least_eviction-map weigh places key extra =
       let same : (suffix : List (List ℕ × X)) → fits places.limit (total_of weigh (map_places f places)) extra (weight_of weigh (map_listed f suffix)) ≡ fits places.limit (total_of (λ k x. weigh k (f x)) places) extra (weight_of (λ k x. weigh k (f x)) suffix) =
       λ suffix. ap (λ n. fits places.limit n extra (weight_of weigh (map_listed f suffix))) (total-map f weigh places) ∙ ap (fits places.limit (total_of (λ k x. weigh k (f x)) places) extra) (weight-map f weigh suffix) in
       ap (shortest_suffix (λ suffix. fits places.limit (total_of weigh (map_places f places)) extra (weight_of weigh suffix))) (others-map f key places.shelf)
       ∙ suffix_map (λ place. (place.0, f place.1)) (λ suffix. fits places.limit (total_of weigh (map_places f places)) extra (weight_of weigh suffix)) (others key places.shelf)
       ∙ (λ i. option_map (map_listed f) (shortest_suffix (λ suffix. same suffix i) (others key places.shelf)))
 
+  pub room-map : (weigh : List ℕ → Y → ℕ) (places : Places X) (key : List ℕ) (extra sticky_extra : ℤ) → room weigh (map_places f places) key extra sticky_extra ≡ option_map (map_listed f) (room (λ k x. weigh k (f x)) places key extra sticky_extra)
+  room-map weigh places key extra sticky_extra =
+      (λ i. cond (fits places.share (sticky_total-map f weigh places i) sticky_extra 0) (least_eviction-map weigh places key extra i) None)
+      ∙ sym (cond_ap (option_map (map_listed f)) (share_fits (λ k x. weigh k (f x)) places sticky_extra) (least_eviction (λ k x. weigh k (f x)) places key extra) None)
+
   answer_by : (suffix : Option (List (List ℕ × X))) → room_answer (option_map (map_listed f) suffix) ≡ room_answer suffix
   answer_by None = refl
   answer_by (Some suffix) = ap Fits (length-map suffix (λ place. (place.0, f place.1)))
 
   -- the shelf's answer on room is that of the items
-  pub room_answer-map : (weigh : List ℕ → Y → ℕ) (places : Places X) (key : List ℕ) (extra : ℤ) → room_answer (room weigh (map_places f places) key extra) ≡ room_answer (room (λ k x. weigh k (f x)) places key extra)
-  room_answer-map weigh places key extra = ap room_answer (room-map weigh places key extra) ∙ answer_by (room (λ k x. weigh k (f x)) places key extra)
+  pub room_answer-map : (weigh : List ℕ → Y → ℕ) (places : Places X) (key : List ℕ) (extra sticky_extra : ℤ) → room_answer (room weigh (map_places f places) key extra sticky_extra) ≡ room_answer (room (λ k x. weigh k (f x)) places key extra sticky_extra)
+  room_answer-map weigh places key extra sticky_extra = ap room_answer (room-map weigh places key extra sticky_extra) ∙ answer_by (room (λ k x. weigh k (f x)) places key extra sticky_extra)
 
 module _ {T : Type 0} where
   listed-filled : (shelf : List (List ℕ × T)) → items_listed (map_listed (λ item. Some item) shelf) ≡ shelf
@@ -202,7 +210,7 @@ module _ {T : Type 0} where
       let in_sticky : finite.from_sorted (items_listed (finite.entries (map_values (λ item. Some item) places.sticky))) ≡ places.sticky =
       ap (λ es. finite.from_sorted (items_listed es)) (entries-map_values (λ item. Some item) places.sticky) ∙ ap finite.from_sorted (listed-filled (finite.entries places.sticky))
       ∙ finite.same_entries_map _ places.sticky (finite.entries-from_sorted (slice_cmp nat_cmp) (finite.entries places.sticky) (finite.entries_sorted places.sticky)) in
-      λ i. record { shelf = listed-filled places.shelf i; sticky = in_sticky i; limit = places.limit }
+      λ i. record { shelf = listed-filled places.shelf i; sticky = in_sticky i; limit = places.limit; share = places.share }
 
   pub IsFilled-filled : (places : Places T) → IsFilled (filled places)
   IsFilled-filled places = ap filled (sym (items_of-filled places))

@@ -9,8 +9,10 @@ pub mod StickyMaps
 pub mod StickySums
 pub mod PlacesLaws
 pub mod AccountingLaws
+pub mod ShareLaws
 pub mod RoomLaws
 pub mod FoundLaws
 pub mod EvictionLaws
 pub mod FilledLaws
 pub mod StoreLaws
+pub mod PutLaws

@@ -9,14 +9,16 @@ use Rattle.std.specs.Ordering.{nat_cmp}
 use Rattle.std.specs.Cmp.Lexicographic.{slice_cmp}
 use Rattle.std.specs.FinMap.{FinMap}
 use Rattle.std.specs.FinMap as finite
-use Rattle.arc_core.specs.Places.{Places, HasEachKeyOnce, found, others, to_front, shelved, touched, placed, refilled, without, weight_of, total_of}
+use Rattle.arc_core.specs.Places.{Places, HasEachKeyOnce, found, others, to_front, shelved, brought_to_front, placed, refilled, without, weight_of, total_of, sticky_total_of}
 use Rattle.arc_core.specs.Room.{shortest_suffix, survivors, evicted, fits, room}
 use Rattle.byte_account.specs.ShelfWords.{on_side}
-use Rattle.byte_account.proofs.ShelfLists.{IsAbsent, own_key, weight_under, others-absent, lookup-others, lookup-set_value, lookup-shelved, shelved-new, shelved-held, set_value-absent}
+use Rattle.byte_account.specs.Weight.{weight_under}
+use Rattle.byte_account.proofs.ShelfLists.{IsAbsent, own_key, others-absent, lookup-others, lookup-set_value, lookup-shelved, shelved-new, shelved-held, set_value-absent}
 use Rattle.byte_account.proofs.StickyMaps.{same_map, get-insert, get-remove}
 use Rattle.byte_account.proofs.StickySums.{remove-absent, insert-replaces}
 use Rattle.byte_account.proofs.EvictionLemmas.{IsAbsent-survivors, others-key, survivors-key}
 use Rattle.byte_account.proofs.PlacesLaws.{absent_from_shelf, HasEachKeyOnce-placed, total-without}
+use Rattle.byte_account.proofs.ShareLaws.{sticky_under, sticky_total-without}
 use Rattle.byte_account.proofs.FoundLaws.{lookup-survivors, on_side-placed}
 use Rattle.byte_account.proofs.StoreLaws.{insert-twice, removed_none, set-twice, placed-held}
 
@@ -49,7 +51,7 @@ module _ {X : Type 0} (key : List ℕ) where
 
   -- no eviction changes nothing
   pub evicted-none : (places : Places X) → evicted key 0 places ≡ places
-  evicted-none places = λ i. record { shelf = survivors-none places.shelf i; sticky = places.sticky; limit = places.limit }
+  evicted-none places = λ i. record { shelf = survivors-none places.shelf i; sticky = places.sticky; limit = places.limit; share = places.share }
 
   others_by : (place : List ℕ × X) (older : List (List ℕ × X)) (b : Bool) → bytes_eq key place.0 ≡ b → others key (place ∷ older) ≡ cond (not b) (place ∷ others key older) (others key older)
   others_by place older b e = ap (λ t. cond (not t) (place ∷ others key older) (others key older)) e
@@ -80,7 +82,7 @@ module _ {X : Type 0} (key : List ℕ) where
   to_front_absent : (shelf : List (List ℕ × X)) → IsAbsent key shelf → to_front key shelf ≡ shelf
   to_front_absent shelf absent = ap (λ o. option_map_or (λ x. (key, x) ∷ others key shelf) o shelf) absent
 
-  others-survivors : (n : ℕ) (shelf : List (List ℕ × X)) → survivors key n (others key shelf) ≡ others key (survivors key n shelf)
+  pub others-survivors : (n : ℕ) (shelf : List (List ℕ × X)) → survivors key n (others key shelf) ≡ others key (survivors key n shelf)
   others-survivors n [] = refl
   others-survivors n (place ∷ older) = others_survivors_by n place older (bytes_eq key place.0) (nat_le n (length (others key older))) refl refl (others-survivors n older)
 
@@ -101,7 +103,7 @@ module _ {X : Type 0} (key : List ℕ) where
       ∙ set-twice key h x shelf ∙ sym (shelved-held key x old shelf e)
 
   evicted-made_sticky : (h : X) (n : ℕ) (places : Places X) → evicted key n (placed true key h places) ≡ placed true key h (evicted key n places)
-  evicted-made_sticky h n places = λ i. record { shelf = others-survivors n places.shelf i; sticky = finite.insert places.sticky key h; limit = places.limit }
+  evicted-made_sticky h n places = λ i. record { shelf = others-survivors n places.shelf i; sticky = finite.insert places.sticky key h; limit = places.limit; share = places.share }
 
   to_front_shelved : (x : X) (shelf : List (List ℕ × X)) → to_front key (shelved key x shelf) ≡ (key, x) ∷ others key shelf
   to_front_shelved x shelf =
@@ -110,9 +112,9 @@ module _ {X : Type 0} (key : List ℕ) where
   -- what is placed anew stands where the first stood
   pub placed-twice : (sticky : Bool) (h x : X) (places : Places X) → placed sticky key x (placed sticky key h places) ≡ placed sticky key x places
   placed-twice true h x places =
-      λ i. record { shelf = others-others places.shelf i; sticky = insert-twice key places.sticky h x i; limit = places.limit }
+      λ i. record { shelf = others-others places.shelf i; sticky = insert-twice key places.sticky h x i; limit = places.limit; share = places.share }
   placed-twice false h x places =
-      λ i. record { shelf = shelved_twice_by h x places.shelf (lookup (bytes_eq key) places.shelf) refl i; sticky = remove-absent (finite.remove places.sticky key) key (removed_none key places.sticky) i; limit = places.limit }
+      λ i. record { shelf = shelved_twice_by h x places.shelf (lookup (bytes_eq key) places.shelf) refl i; sticky = remove-absent (finite.remove places.sticky key) key (removed_none key places.sticky) i; limit = places.limit; share = places.share }
 
   -- a place that was made or moved is filled
   pub refilled-made : (sticky : Bool) (h x : X) (places : Places X) → HasEachKeyOnce places → refilled key x (placed sticky key h places) ≡ placed sticky key x places
@@ -129,32 +131,35 @@ module _ {X : Type 0} (key : List ℕ) where
   evicted-moved true h n places absent = evicted-made_sticky h n places
   evicted-moved false h n places absent =
       let on_shelf = ap (survivors key n) (shelved-new key h places.shelf absent) ∙ survivors-key key n h places.shelf ∙ sym (shelved-new key h (survivors key n places.shelf) (IsAbsent-survivors key n key places.shelf absent)) in
-      λ i. record { shelf = on_shelf i; sticky = finite.remove places.sticky key; limit = places.limit }
+      λ i. record { shelf = on_shelf i; sticky = finite.remove places.sticky key; limit = places.limit; share = places.share }
 
   -- a new place is the front
-  pub touched-new : (sticky : Bool) (x : X) (places : Places X) → found key places ≡ None → touched key (placed sticky key x places) ≡ placed sticky key x places
+  pub touched-new : (sticky : Bool) (x : X) (places : Places X) → found key places ≡ None → brought_to_front key (placed sticky key x places) ≡ placed sticky key x places
   touched-new true x places absent =
       let on_shelf = to_front_absent (others key places.shelf) (lookup-others key places.shelf) in
-      λ i. record { shelf = on_shelf i; sticky = finite.insert places.sticky key x; limit = places.limit }
+      λ i. record { shelf = on_shelf i; sticky = finite.insert places.sticky key x; limit = places.limit; share = places.share }
   touched-new false x places absent =
       let none : IsAbsent key places.shelf = absent_from_shelf key places absent in
       let on_shelf = to_front_shelved x places.shelf ∙ ap (λ l. (key, x) ∷ l) (others-absent key places.shelf none) ∙ sym (shelved-new key x places.shelf none) in
-      λ i. record { shelf = on_shelf i; sticky = finite.remove places.sticky key; limit = places.limit }
+      λ i. record { shelf = on_shelf i; sticky = finite.remove places.sticky key; limit = places.limit; share = places.share }
 
   -- what is used after it stands for another that is gone is in front, as what is new
-  pub touched-anew : (sticky : Bool) (x : X) (n : ℕ) (places : Places X) → touched key (placed sticky key x (evicted key n places)) ≡ placed sticky key x (evicted key n (without key places))
+  pub touched-anew : (sticky : Bool) (x : X) (n : ℕ) (places : Places X) → brought_to_front key (placed sticky key x (evicted key n places)) ≡ placed sticky key x (evicted key n (without key places))
   touched-anew true x n places =
       let on_shelf = to_front_absent (others key (survivors key n places.shelf)) (lookup-others key (survivors key n places.shelf)) ∙ sym (others-others (survivors key n places.shelf)) ∙ sym (ap (others key) (others-survivors n places.shelf)) in
-      λ i. record { shelf = on_shelf i; sticky = sym (insert-replaces (λ k y. 0) places.sticky key x) i; limit = places.limit }
+      λ i. record { shelf = on_shelf i; sticky = sym (insert-replaces (λ k y. 0) places.sticky key x) i; limit = places.limit; share = places.share }
   touched-anew false x n places =
       let on_shelf = to_front_shelved x (survivors key n places.shelf) ∙ ap (λ l. (key, x) ∷ l) (sym (others-survivors n places.shelf))
       ∙ sym (shelved-new key x (survivors key n (others key places.shelf)) (IsAbsent-survivors key n key (others key places.shelf) (lookup-others key places.shelf))) in
-      λ i. record { shelf = on_shelf i; sticky = sym (remove-absent (finite.remove places.sticky key) key (removed_none key places.sticky)) i; limit = places.limit }
+      λ i. record { shelf = on_shelf i; sticky = sym (remove-absent (finite.remove places.sticky key) key (removed_none key places.sticky)) i; limit = places.limit; share = places.share }
 
   -- where the key's item is gone, another needs as much more room
-  pub room-without : (weigh : List ℕ → X → ℕ) (old : X) (new : ℕ) (places : Places X) → HasEachKeyOnce places → found key places ≡ Some old
-      → room weigh (without key places) key (pos new) ≡ room weigh places key (pos new -ℤ pos (weigh key old))
-  room-without weigh old new places once held =
+  pub room-without : (weigh : List ℕ → X → ℕ) (old : X) (new sticky_old sticky_new : ℕ) (places : Places X) → HasEachKeyOnce places → found key places ≡ Some old → sticky_under weigh key places ≡ sticky_old
+      → room weigh (without key places) key (pos new) (pos sticky_new) ≡ room weigh places key (pos new -ℤ pos (weigh key old)) (pos sticky_new -ℤ pos sticky_old)
+  room-without weigh old new sticky_old sticky_new places once held sticky_held =
       let sum : total_of weigh (without key places) + weigh key old ≡ total_of weigh places = sym (ap (λ o. total_of weigh (without key places) + weight_under weigh key o) held) ∙ total-without weigh key places once in
-      (λ i. shortest_suffix (λ suffix. fits_less places.limit (total_of weigh (without key places)) (weigh key old) new (weight_of weigh suffix) i) (others-others places.shelf i))
-      ∙ (λ i. shortest_suffix (λ suffix. fits places.limit (sum i) (pos new -ℤ pos (weigh key old)) (weight_of weigh suffix)) (others key places.shelf))
+      let sticky_sum : sticky_total_of weigh (without key places) + sticky_old ≡ sticky_total_of weigh places = sym (ap (λ n. sticky_total_of weigh (without key places) + n) sticky_held) ∙ sticky_total-without weigh key places in
+      (λ i. cond (fits_less places.share (sticky_total_of weigh (without key places)) sticky_old sticky_new 0 i)
+      (shortest_suffix (λ suffix. fits_less places.limit (total_of weigh (without key places)) (weigh key old) new (weight_of weigh suffix) i) (others-others places.shelf i)) None)
+      ∙ (λ i. cond (fits places.share (sticky_sum i) (pos sticky_new -ℤ pos sticky_old) 0)
+      (shortest_suffix (λ suffix. fits places.limit (sum i) (pos new -ℤ pos (weigh key old)) (weight_of weigh suffix)) (others key places.shelf)) None)

@@ -3,8 +3,10 @@ use Rattle.std.proofs.Common.{◌≡◌, ℕ, ◌+◌, Bool, true, false, cond, 
 use Rattle.std.specs.Option.{option_or}
 use Rattle.std.specs.Map.{lookup, set_value}
 use Rattle.std.specs.FinMap as finite
-use Rattle.arc_core.specs.Places.{Places, HasEachKeyOnce, found, others, shelved, touched, placed, refilled, without, weight_of, total_of}
-use Rattle.byte_account.proofs.ShelfLists.{IsAbsent, same_key, others-absent, lookup-others, lookup-others_apart, AreApart-others, AreApart-to_front, AreApart-set_value, AreApart-shelved, lookup-to_front, is_some-set_value, lookup-shelved_apart, shelved-new, set_value-absent, weight_under, weight-others, weight-to_front, weight-set_value, weight-shelved}
+use Rattle.arc_core.specs.Places.{Places, HasEachKeyOnce, found, others, shelved, brought_to_front, placed, refilled, without, weight_of, total_of}
+use Rattle.byte_account.specs.ShelfWords.{listed_at, stuck_at}
+use Rattle.byte_account.specs.Weight.{weight_under}
+use Rattle.byte_account.proofs.ShelfLists.{IsAbsent, same_key, others-absent, lookup-others, lookup-others_apart, AreApart-others, AreApart-to_front, AreApart-set_value, AreApart-shelved, lookup-to_front, is_some-set_value, lookup-shelved_apart, shelved-new, set_value-absent, weight-others, weight-to_front, weight-set_value, weight-shelved}
 use Rattle.arc_core.specs.Room.{evicted}
 use Rattle.byte_account.proofs.EvictionLemmas.{AreApart-survivors, is_some-survivors}
 use Rattle.byte_account.proofs.StickyMaps.{get-insert, get-remove}
@@ -45,31 +47,27 @@ module _ {X : Type 0} where
   pub not_on_shelf : (places : Places X) → HasEachKeyOnce places → (key : List ℕ) → IsSome (finite.get places.sticky key) → IsAbsent key places.shelf
   not_on_shelf places once key there = not_on_shelf_at places once key (lookup (bytes_eq key) places.shelf) refl there
 
-  -- a new place, on either side
-  pub placed-new_sticky : (key : List ℕ) (x : X) (places new : Places X) → found key places ≡ None → new.shelf ≡ places.shelf → new.sticky ≡ finite.insert places.sticky key x → new.limit ≡ places.limit → new ≡ placed true key x places
-  placed-new_sticky key x places new absent shelf sticky limit =
-      let same = shelf ∙ sym (others-absent key places.shelf (absent_from_shelf key places absent)) in
-      λ i. record { shelf = same i; sticky = sticky i; limit = limit i }
-
-  pub placed-new_listed : (key : List ℕ) (x : X) (places new : Places X) → found key places ≡ None → new.shelf ≡ (key, x) ∷ places.shelf → new.sticky ≡ places.sticky → new.limit ≡ places.limit → new ≡ placed false key x places
-  placed-new_listed key x places new absent shelf sticky limit =
+  -- a new place on the side that is named, told by its parts
+  pub placed-new : (sticky : Bool) (key : List ℕ) (x : X) (places new : Places X) → found key places ≡ None → new.shelf ≡ listed_at sticky key x places.shelf → new.sticky ≡ stuck_at sticky key x places.sticky
+      → new.limit ≡ places.limit → new.share ≡ places.share → new ≡ placed sticky key x places
+  placed-new true key x places new absent shelf sticky limit share = λ i. record { shelf = shelf i; sticky = sticky i; limit = limit i; share = share i }
+  placed-new false key x places new absent shelf sticky limit share =
       let first = shelf ∙ sym (shelved-new key x places.shelf (absent_from_shelf key places absent)) in
-      let same = sticky ∙ sym (remove-absent places.sticky key (absent_from_sticky key places absent)) in
-      λ i. record { shelf = first i; sticky = same i; limit = limit i }
+      λ i. record { shelf = first i; sticky = sticky i; limit = limit i; share = share i }
 
   -- a place that moves to the other side
-  pub placed-moved_sticky : (key : List ℕ) (x : X) (places new : Places X) → new.shelf ≡ others key places.shelf → new.sticky ≡ finite.insert places.sticky key x → new.limit ≡ places.limit → new ≡ placed true key x places
-  placed-moved_sticky key x places new shelf sticky limit = λ i. record { shelf = shelf i; sticky = sticky i; limit = limit i }
+  pub placed-moved_sticky : (key : List ℕ) (x : X) (places new : Places X) → new.shelf ≡ others key places.shelf → new.sticky ≡ finite.insert places.sticky key x → new.limit ≡ places.limit → new.share ≡ places.share → new ≡ placed true key x places
+  placed-moved_sticky key x places new shelf sticky limit share = λ i. record { shelf = shelf i; sticky = sticky i; limit = limit i; share = share i }
 
-  pub placed-moved_listed : (key : List ℕ) (x : X) (places new : Places X) → IsAbsent key places.shelf → new.shelf ≡ (key, x) ∷ places.shelf → new.sticky ≡ finite.remove places.sticky key → new.limit ≡ places.limit → new ≡ placed false key x places
-  placed-moved_listed key x places new absent shelf sticky limit =
+  pub placed-moved_listed : (key : List ℕ) (x : X) (places new : Places X) → IsAbsent key places.shelf → new.shelf ≡ (key, x) ∷ places.shelf → new.sticky ≡ finite.remove places.sticky key → new.limit ≡ places.limit → new.share ≡ places.share → new ≡ placed false key x places
+  placed-moved_listed key x places new absent shelf sticky limit share =
       let first = shelf ∙ sym (shelved-new key x places.shelf absent) in
-      λ i. record { shelf = first i; sticky = sticky i; limit = limit i }
+      λ i. record { shelf = first i; sticky = sticky i; limit = limit i; share = share i }
 
   -- each key has one place at most, after each change
 
-  pub HasEachKeyOnce-touched : (key : List ℕ) (places : Places X) → HasEachKeyOnce places → HasEachKeyOnce (touched key places)
-  HasEachKeyOnce-touched key places once =
+  pub HasEachKeyOnce-brought_to_front : (key : List ℕ) (places : Places X) → HasEachKeyOnce places → HasEachKeyOnce (brought_to_front key places)
+  HasEachKeyOnce-brought_to_front key places once =
       record { on_shelf = AreApart-to_front key places.shelf once.on_shelf; on_one_side = λ q there. once.on_one_side q (ap is_some (sym (lookup-to_front key q places.shelf)) ∙ there) }
 
   sticky_placed : (key : List ℕ) (x : X) (places : Places X) → HasEachKeyOnce places → (q : List ℕ) (b : Bool) → bytes_eq q key ≡ b → IsSome (lookup (bytes_eq q) (others key places.shelf)) → cond b (Some x) (finite.get places.sticky q) ≡ None
@@ -126,8 +124,8 @@ module _ {X : Type 0} where
       record { on_shelf = AreApart-survivors key n places.shelf once.on_shelf; on_one_side = λ q there. once.on_one_side q (is_some-survivors key n q places.shelf there) }
 
 module _ {X : Type 0} (weigh : List ℕ → X → ℕ) where
-  pub total-touched : (key : List ℕ) (places : Places X) → HasEachKeyOnce places → total_of weigh (touched key places) ≡ total_of weigh places
-  total-touched key places once = ap (λ n. n + weight_of weigh (finite.entries places.sticky)) (weight-to_front weigh key places.shelf once.on_shelf)
+  pub total-brought_to_front : (key : List ℕ) (places : Places X) → HasEachKeyOnce places → total_of weigh (brought_to_front key places) ≡ total_of weigh places
+  total-brought_to_front key places once = ap (λ n. n + weight_of weigh (finite.entries places.sticky)) (weight-to_front weigh key places.shelf once.on_shelf)
 
   -- an item that is put under a key adds its weight, less that of what stood there
   placed_by : (sticky : Bool) (key : List ℕ) (x : X) (places : Places X) (on_shelf in_sticky : Option X) → lookup (bytes_eq key) places.shelf ≡ on_shelf → finite.get places.sticky key ≡ in_sticky → (IsSome on_shelf → in_sticky ≡ None)

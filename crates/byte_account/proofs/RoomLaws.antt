@@ -4,12 +4,12 @@ use Rattle.std.proofs.lemmas.Bool.{le-leb, cases_lt}
 use Rattle.std.proofs.lemmas.Int.{ints}
 use Rattle.std.specs.Option.{option_or, unwrap_or}
 use Rattle.std.proofs.lemmas.List.{append-nil}
-use Rattle.arc_core.specs.Places.{Places, others, weight_of, total_of}
-use Rattle.arc_core.specs.Room.{shortest_suffix, fits, room}
+use Rattle.arc_core.specs.Places.{Places, others, weight_of, total_of, sticky_total_of}
+use Rattle.arc_core.specs.Room.{shortest_suffix, fits, share_fits, least_eviction, room}
 use Rattle.byte_account.specs.declared.room.Room.{Room}
 use Rattle.byte_account.specs.declared.room.Room.TheVariants.{Fits, Nothing}
 use Rattle.byte_account.specs.ShelfWords.{room_answer, added_by}
-use Rattle.byte_account.specs.Accounting.{IsAccounted}
+use Rattle.byte_account.specs.Accounting.{IsAccounted, IsWithinShare}
 use Rattle.byte_account.proofs.EvictionLemmas.{lt-leb-false}
 use Rattle.byte_account.specs.LeastEviction.{last_of, IsLeastEviction}
 use Rattle.byte_account.proofs.RoomLemmas.{is_enough, shortest_suffix-front}
@@ -27,27 +27,54 @@ fits-by_need limit total (pos extra) freed within = same_test (total + extra) (l
 fits-by_need limit total (negsuc less) freed within = same_test total (limit + freed + suc less) (0 - (limit - total)) freed (λ h. omega arith) (λ h. omega arith)
 
 module _ {X : Type 0} (weigh : List ℕ → X → ℕ) where
-  pub room-by_need : (places : Places X) (total : ℕ) (key : List ℕ) (extra : ℤ) → IsAccounted weigh places total
-      → room weigh places key extra ≡ shortest_suffix (is_enough weigh (added_by extra - (places.limit - total))) (others key places.shelf)
-  room-by_need places total key extra accounted =
+  least_eviction-by_need : (places : Places X) (total : ℕ) (key : List ℕ) (extra : ℤ) → IsAccounted weigh places total
+      → least_eviction weigh places key extra ≡ shortest_suffix (is_enough weigh (added_by extra - (places.limit - total))) (others key places.shelf)
+  least_eviction-by_need places total key extra accounted =
       let within : total_of weigh places ≤ places.limit = subst (λ n. n ≤ places.limit) accounted.sum accounted.within in
       let same : (suffix : List (List ℕ × X)) → fits places.limit (total_of weigh places) extra (weight_of weigh suffix) ≡ is_enough weigh (added_by extra - (places.limit - total)) suffix =
       λ suffix. fits-by_need places.limit (total_of weigh places) extra (weight_of weigh suffix) within
       ∙ ap (λ n. nat_le (added_by extra - (places.limit - n)) (weight_of weigh suffix)) (sym accounted.sum) in
       λ i. shortest_suffix (λ suffix. same suffix i) (others key places.shelf)
 
-  -- what a search for so many bytes found is room
-  pub room-from_need : (places now : Places X) (total : ℕ) (key : List ℕ) (extra : ℤ) (need : ℕ) (found : Option ℕ) → IsAccounted weigh places total → places ≡ now → need ≡ added_by extra - (places.limit - total)
-      → found ≡ option_map length (shortest_suffix (is_enough weigh need) (others key places.shelf)) → found ≡ option_map length (room weigh now key extra)
-  room-from_need places now total key extra need found accounted same need_is found_is =
+  -- what a search for so many bytes found is the least eviction
+  pub least_eviction-from_need : (places now : Places X) (total : ℕ) (key : List ℕ) (extra : ℤ) (need : ℕ) (found : Option ℕ) → IsAccounted weigh places total → places ≡ now → need ≡ added_by extra - (places.limit - total)
+      → found ≡ option_map length (shortest_suffix (is_enough weigh need) (others key places.shelf)) → found ≡ option_map length (least_eviction weigh now key extra)
+  least_eviction-from_need places now total key extra need found accounted same need_is found_is =
       found_is ∙ ap (λ n. option_map length (shortest_suffix (is_enough weigh n) (others key places.shelf))) need_is
-      ∙ ap (option_map length) (sym (room-by_need places total key extra accounted)) ∙ ap (λ p. option_map length (room weigh p key extra)) same
+      ∙ ap (option_map length) (sym (least_eviction-by_need places total key extra accounted)) ∙ ap (λ p. option_map length (least_eviction weigh p key extra)) same
 
-pub fits_from_count : {A : Type 0} (n : ℕ) (suffix : Option (List A)) → Some n ≡ option_map length suffix → Fits n ≡ room_answer suffix
+  -- the share is kept where what is added to the sticky items is no more than what is spare of it
+  pub share_fits-by_spare : (places now : Places X) (sticky_total : ℕ) (sticky_extra : ℤ) → IsWithinShare weigh places sticky_total → places ≡ now
+      → share_fits weigh now sticky_extra ≡ nat_le (added_by sticky_extra) (places.share - sticky_total)
+  share_fits-by_spare places now sticky_total sticky_extra shared same =
+      let within : sticky_total_of weigh places ≤ places.share = subst (λ n. n ≤ places.share) shared.sum shared.within in
+      ap (λ p. share_fits weigh p sticky_extra) (sym same)
+      ∙ fits-by_need places.share (sticky_total_of weigh places) sticky_extra 0 within
+      ∙ ap (λ n. nat_le (added_by sticky_extra - (places.share - n)) 0) (sym shared.sum)
+      ∙ same_test (added_by sticky_extra - (places.share - sticky_total)) 0 (added_by sticky_extra) (places.share - sticky_total) (λ h. omega arith) (λ h. omega arith)
+
+-- what was searched for is room
+module _ {X : Type 0} (weigh : List ℕ → X → ℕ) (places now : Places X) (total sticky_total : ℕ) (key : List ℕ) (extra sticky_extra : ℤ) (more sticky_more : ℕ) (accounted : IsAccounted weigh places total) (shared : IsWithinShare weigh places sticky_total) (same : places ≡ now)
+    (more_is : more ≡ added_by extra) (sticky_more_is : sticky_more ≡ added_by sticky_extra) where
+  pub evictions_past_share : places.share - sticky_total < sticky_more → None ≡ option_map length (room weigh now key extra sticky_extra)
+  evictions_past_share past =
+      let broken : share_fits weigh now sticky_extra ≡ false =
+      share_fits-by_spare weigh places now sticky_total sticky_extra shared same ∙ ap (λ n. nat_le n (places.share - sticky_total)) (sym sticky_more_is) ∙ lt-leb-false (places.share - sticky_total) sticky_more past in
+      sym (ap (λ b. option_map length (cond b (least_eviction weigh now key extra) None)) broken)
+
+  pub evictions_by : sticky_more ≤ places.share - sticky_total → (need : ℕ) → need ≡ more - (places.limit - total) → (found : Option ℕ) → found ≡ option_map length (shortest_suffix (is_enough weigh need) (others key places.shelf))
+      → found ≡ option_map length (room weigh now key extra sticky_extra)
+  evictions_by within need need_is found found_is =
+      let kept : share_fits weigh now sticky_extra ≡ true =
+      share_fits-by_spare weigh places now sticky_total sticky_extra shared same ∙ ap (λ n. nat_le n (places.share - sticky_total)) (sym sticky_more_is) ∙ le-leb sticky_more (places.share - sticky_total) within in
+      least_eviction-from_need weigh places now total key extra need found accounted same (need_is ∙ ap (λ n. n - (places.limit - total)) more_is) found_is
+      ∙ sym (ap (λ b. option_map length (cond b (least_eviction weigh now key extra) None)) kept)
+
+fits_from_count : {A : Type 0} (n : ℕ) (suffix : Option (List A)) → Some n ≡ option_map length suffix → Fits n ≡ room_answer suffix
 fits_from_count n None h = absurd (cc)
 fits_from_count n (Some suffix) h = ap Fits (let same : n ≡ length suffix = cc in same)
 
-pub nothing_from_count : {A : Type 0} (suffix : Option (List A)) → None ≡ option_map (length {A = A}) suffix → Nothing ≡ room_answer suffix
+nothing_from_count : {A : Type 0} (suffix : Option (List A)) → None ≡ option_map (length {A = A}) suffix → Nothing ≡ room_answer suffix
 nothing_from_count None h = refl
 nothing_from_count (Some suffix) h = absurd (cc)
 
@@ -131,31 +158,50 @@ module _ {X : Type 0} (weigh : List ℕ → X → ℕ) (places : Places X) (key 
   abbrev room_fits : List (List ℕ × X) → Bool
   room_fits suffix = fits places.limit (total_of weigh places) extra (weight_of weigh suffix)
 
-  least_by : (suffix : Option (List (List ℕ × X))) → room weigh places key extra ≡ suffix → IsLeastEviction weigh places key extra (room_answer suffix)
-  least_by None h = shortest_suffix-none_enough room_fits (others key places.shelf) h
-  least_by (Some suffix) h =
-      let s = IsShortest-shortest_suffix room_fits (others key places.shelf) suffix h in
-      (s.short, ap room_fits s.last ∙ s.suffices, s.least)
+  module _ (sticky_extra : ℤ) where
+    least_by : (suffix : Option (List (List ℕ × X))) → least_eviction weigh places key extra ≡ suffix → share_fits weigh places sticky_extra ≡ true → IsLeastEviction weigh places key extra sticky_extra (room_answer suffix)
+    least_by None h kept = inr (shortest_suffix-none_enough room_fits (others key places.shelf) h)
+    least_by (Some suffix) h kept =
+        let s = IsShortest-shortest_suffix room_fits (others key places.shelf) suffix h in
+        record { share = kept; count = s.short; enough = ap room_fits s.last ∙ s.suffices; least = s.least }
 
-  -- room is the least eviction
-  pub IsLeastEviction-room : IsLeastEviction weigh places key extra (room_answer (room weigh places key extra))
-  IsLeastEviction-room = least_by (room weigh places key extra) refl
+    room_by : (kept : Bool) → share_fits weigh places sticky_extra ≡ kept → IsLeastEviction weigh places key extra sticky_extra (room_answer (cond kept (least_eviction weigh places key extra) None))
+    room_by true e = least_by (least_eviction weigh places key extra) refl e
+    room_by false e = inl e
+
+    -- room is the least eviction
+    pub IsLeastEviction-room : IsLeastEviction weigh places key extra sticky_extra (room_answer (room weigh places key extra sticky_extra))
+    IsLeastEviction-room = room_by (share_fits weigh places sticky_extra) refl
 
   -- where nothing is added, nothing is evicted
-  pub room-nothing_added : fits places.limit (total_of weigh places) extra 0 ≡ true → room weigh places key extra ≡ Some []
-  room-nothing_added kept =
+  pub least_eviction-nothing_added : fits places.limit (total_of weigh places) extra 0 ≡ true → least_eviction weigh places key extra ≡ Some []
+  least_eviction-nothing_added kept =
       ap (shortest_suffix room_fits) (sym (append-nil (others key places.shelf)))
       ∙ shortest_suffix-front room_fits (others key places.shelf) [] [] (ap (λ b. cond b (Some []) None) kept)
+
+  pub room-nothing_added : (sticky_extra : ℤ) → fits places.limit (total_of weigh places) extra 0 ≡ true → room weigh places key extra sticky_extra ≡ cond (share_fits weigh places sticky_extra) (Some []) None
+  room-nothing_added sticky_extra kept = ap (λ o. cond (share_fits weigh places sticky_extra) o None) (least_eviction-nothing_added kept)
 
 pub fits_nothing_added : (limit total : ℕ) (extra : ℤ) → total ≤ limit → extra ≤ℤ pos 0 → fits limit total extra 0 ≡ true
 fits_nothing_added limit total (pos extra) within below = le-leb (total + extra) (limit + 0) (omega (arith, ints))
 fits_nothing_added limit total (negsuc less) within below = le-leb total (limit + 0 + suc less) (omega arith)
 
--- the two clauses, at the answer that was given
-pub least_answer : {X : Type 0} (weigh : List ℕ → X → ℕ) (places : Places X) (key : List ℕ) (extra : ℤ) (answer : Room) → answer ≡ room_answer (room weigh places key extra) → IsLeastEviction weigh places key extra answer
-least_answer weigh places key extra answer is = subst (IsLeastEviction weigh places key extra) (sym is) (IsLeastEviction-room weigh places key extra)
+-- the clauses, at the answer that was given
+module _ {X : Type 0} (weigh : List ℕ → X → ℕ) (places : Places X) (key : List ℕ) (extra sticky_extra : ℤ) where
+  pub fits_answer : (n : ℕ) → Some n ≡ option_map length (room weigh places key extra sticky_extra) → Fits n ≡ room_answer (room weigh places key extra sticky_extra)
+  fits_answer n = fits_from_count n (room weigh places key extra sticky_extra)
 
-pub nothing_evicted : {X : Type 0} (weigh : List ℕ → X → ℕ) (places : Places X) (total : ℕ) (key : List ℕ) (extra : ℤ) (answer : Room) → IsAccounted weigh places total → answer ≡ room_answer (room weigh places key extra) → extra ≤ℤ pos 0 → answer ≡ Fits 0
-nothing_evicted weigh places total key extra answer accounted is below =
-    let within : total_of weigh places ≤ places.limit = subst (λ n. n ≤ places.limit) accounted.sum accounted.within in
-    is ∙ ap room_answer (room-nothing_added weigh places key extra (fits_nothing_added places.limit (total_of weigh places) extra within below))
+  pub nothing_answer : None ≡ option_map length (room weigh places key extra sticky_extra) → Nothing ≡ room_answer (room weigh places key extra sticky_extra)
+  nothing_answer = nothing_from_count (room weigh places key extra sticky_extra)
+
+  pub least_answer : (answer : Room) → answer ≡ room_answer (room weigh places key extra sticky_extra) → IsLeastEviction weigh places key extra sticky_extra answer
+  least_answer answer is = subst (IsLeastEviction weigh places key extra sticky_extra) (sym is) (IsLeastEviction-room weigh places key extra sticky_extra)
+
+  none_or_nothing : (b : Bool) → room_answer {A = List ℕ × X} (cond b (Some []) None) ≡ cond b (Fits 0) Nothing
+  none_or_nothing true = refl
+  none_or_nothing false = refl
+
+  pub nothing_evicted : (answer : Room) → total_of weigh places ≤ places.limit → answer ≡ room_answer (room weigh places key extra sticky_extra) → extra ≤ℤ pos 0 → answer ≡ cond (share_fits weigh places sticky_extra) (Fits 0) Nothing
+  nothing_evicted answer within is below =
+      is ∙ ap room_answer (room-nothing_added weigh places key extra sticky_extra (fits_nothing_added places.limit (total_of weigh places) extra within below))
+      ∙ none_or_nothing (share_fits weigh places sticky_extra)

@@ -10,6 +10,7 @@ use Rattle.std.proofs.lemmas.List.Elements.{filter-append}
 use Rattle.std.proofs.lemmas.List.Sums.{sum_by-cons}
 use Rattle.std.proofs.lemmas.Map.Made.{IsDistinct-keys_filter}
 use Rattle.arc_core.specs.Places.{others, to_front, shelved, weight_of}
+use Rattle.byte_account.specs.Weight.{weight_under}
 
 pub same_key : (x y : List ℕ) → bytes_eq x y ≡ true → x ≡ y
 same_key x y = (bytes_eq-Decides x y).0
@@ -92,10 +93,6 @@ module _ {X : Type 0} where
   pub lookup-set_value_apart : (key other : List ℕ) (x : X) (shelf : List (List ℕ × X)) → bytes_eq other key ≡ false → lookup (bytes_eq other) (set_value (bytes_eq key) shelf x) ≡ lookup (bytes_eq other) shelf
   lookup-set_value_apart key other x [] apart = refl
   lookup-set_value_apart key other x (place ∷ older) apart = grind (arith, lookup-set_value_apart key other x older apart, same_key key place.0)
-
-  -- what stands under the key weighs so much, or 0 where nothing does
-  abbrev pub weight_under : (List ℕ → X → ℕ) → List ℕ → Option X → ℕ
-  weight_under weigh key place = option_map_or (weigh key) place 0
 
   pub weight-cons : (weigh : List ℕ → X → ℕ) (place : List ℕ × X) (older : List (List ℕ × X)) → weight_of weigh (place ∷ older) ≡ weigh place.0 place.1 + weight_of weigh older
   weight-cons weigh place older = sum_by-cons (λ (p : List ℕ × X). weigh p.0 p.1) place older

@@ -16,7 +16,7 @@ module _ {X Y : Type 0} (f : X → Y) where
 
   -- the places with f of what stands in each
   abbrev pub map_places : Places X → Places Y
-  map_places places = record { shelf = map_listed places.shelf; sticky = map_values places.sticky; limit = places.limit }
+  map_places places = record { shelf = map_listed places.shelf; sticky = map_values places.sticky; limit = places.limit; share = places.share }
 
 module _ {T : Type 0} where
   -- each item in its place
@@ -29,7 +29,7 @@ module _ {T : Type 0} where
 
   -- the items, without the hollow places
   abbrev pub items_of : Places (Option T) → Places T
-  items_of places = record { shelf = items_listed places.shelf; sticky = from_sorted (items_listed (entries places.sticky)); limit = places.limit }
+  items_of places = record { shelf = items_listed places.shelf; sticky = from_sorted (items_listed (entries places.sticky)); limit = places.limit; share = places.share }
 
   -- no place is hollow
   abbrev pub IsFilled : Places (Option T) → Type 0

@@ -4,6 +4,7 @@ pub mod Eviction
 pub mod Filled
 pub mod LeastEviction
 pub mod PlacesCode
+pub mod Putting
 pub mod ShelfWords
 pub mod Sides
 pub mod Weight

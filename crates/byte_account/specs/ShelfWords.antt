@@ -1,10 +1,15 @@
 -- What the calls of the shelf speak of. A place may be hollow, which is to say that its item is still to come.
-use Rattle.std.specs.Prelude.{ℕ, Bool, true, false, List, length, bytes_eq, Option, Some, None, ℤ, pos, negsuc}
+use Rattle.std.specs.Prelude.{◌≡◌, ℕ, Bool, true, false, List, ◌∷◌, length, bytes_eq, Option, Some, None, IsSome, ℤ, pos, negsuc}
+use Rattle.std.specs.Ordering.{nat_cmp}
+use Rattle.std.specs.Cmp.Lexicographic.{slice_cmp}
+use Rattle.std.specs.FinMap.{FinMap}
 use Rattle.std.specs.Option.{option_map_or, option_flatten}
 use Rattle.std.specs.Map.{lookup}
 use Rattle.std.specs.FinMap as finite
-use Rattle.arc_core.specs.Places.{Places, found, placed, without}
+use Rattle.arc_core.specs.Places.{Places, found, others, placed, without}
+use Rattle.byte_account.specs.Weight.{weight_under}
 use Rattle.byte_account.specs.declared.room.Room.{Room}
+use Rattle.byte_account.specs.declared.shelf.Held.{Held}
 use Rattle.byte_account.specs.declared.room.Room.TheVariants.{Fits, Nothing}
 
 -- the item under the key: none where the key has no place, or a hollow one
@@ -15,6 +20,24 @@ item_at key places = option_flatten (found key places)
 abbrev pub on_side : {X : Type 0} → Bool → List ℕ → Places X → Option X
 on_side true key places = finite.get places.sticky key
 on_side false key places = lookup (bytes_eq key) places.shelf
+
+-- what the key's place weighs; 0 where it has none
+abbrev pub weight_at : {X : Type 0} → (List ℕ → X → ℕ) → List ℕ → Places X → ℕ
+weight_at weigh key places = weight_under weigh key (found key places)
+
+-- The key has a place that weighs so much, on this side.
+pub record IsHeld {X : Type 0} (weigh : List ℕ → X → ℕ) (key : List ℕ) (places : Places X) (held : Held) : Type 0 where
+  pub there : IsSome (on_side held.sticky key places)
+  pub weight : held.weight ≡ weight_at weigh key places
+
+-- the two sides, with x under the key on the one that is named and nothing on the other
+abbrev pub listed_at : {X : Type 0} → (sticky : Bool) → List ℕ → X → List (List ℕ × X) → List (List ℕ × X)
+listed_at true key x shelf = others key shelf
+listed_at false key x shelf = (key, x) ∷ shelf
+
+abbrev pub stuck_at : {X : Type 0} → (sticky : Bool) → List ℕ → X → FinMap (slice_cmp nat_cmp) X → FinMap (slice_cmp nat_cmp) X
+stuck_at true key x m = finite.insert m key x
+stuck_at false key x m = finite.remove m key
 
 -- the key's place moved to the side that is named
 abbrev pub restuck : {X : Type 0} → Bool → List ℕ → Places X → Places X

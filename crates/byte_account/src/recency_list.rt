@@ -6,6 +6,7 @@ ghost use Rattle.arc_core.specs.Places.{others, to_front, weight_of};
 ghost use Rattle.arc_core.specs.Room.{shortest_suffix, survivors};
 ghost use Rattle.byte_account.specs.ByBytes.{by_bytes};
 ghost use Rattle.byte_account.specs.Eviction.{is_last, to_back, PopsDownTo};
+ghost use Rattle.byte_account.specs.LeastEviction.{last_of};
 ghost use Rattle.byte_account.specs.Weight.{place_weight};
 
 use crate::Weighs;
@@ -115,7 +116,7 @@ impl<T: Weighs> RecencyList<T> {
                 return Some(count);
             }
             if key != name.as_slice() {
-                freed += weigh_place(name, place);
+                freed += weigh_place(name.as_slice(), place);
                 count += 1;
             }
         }
@@ -157,9 +158,9 @@ impl<T: Weighs> RecencyList<T> {
         (freed, left)
     }
 
-    // Takes the last `n` places away. Answers how many bytes they weighed.
-    fn pop_many(&mut self, n: usize) -> u64
-        requires { weight_of (place_weight T.weigh) self.old < 2 ^ 64 }
+    /// Takes the last `n` places away. Answers how many bytes they weighed.
+    pub(crate) fn pop_many(&mut self, n: usize) -> u64
+        requires { weight_of (place_weight T.weigh) (last_of n self.old) < 2 ^ 64 }
         ensures places { self.new ≡ take (length self.old - n) self.old }
         ensures freed { weight_of (place_weight T.weigh) self.new + result ≡ weight_of (place_weight T.weigh) self.old }
     {
@@ -178,7 +179,7 @@ impl<T: Weighs> RecencyList<T> {
         let Some((name, place)) = self.cache.pop_lru() else {
             return 0;
         };
-        weigh_place(&name, &place)
+        weigh_place(name.as_slice(), &place)
     }
 
     // Whether the key's place is the last.
@@ -222,9 +223,9 @@ fn replace_in<T: Weighs>(
     }
 }
 
-// The bytes that a place weighs.
-fn weigh_place<T: Weighs>(name: &Vec<u8>, place: &Option<T>) -> u64
-    ensures { result ≡ place_weight T.weigh name.now.items place.now }
+/// The bytes that a place weighs.
+pub(crate) fn weigh_place<T: Weighs>(name: &[u8], place: &Option<T>) -> u64
+    ensures { result ≡ place_weight T.weigh name.now place.now }
 {
     match place {
         Some(item) => item.weight(name),

@@ -1,5 +1,5 @@
 //! The table of the sticky places, which are never evicted.
-ghost use Rattle.std.specs.Prelude.{◌≡◌, ◌<◌, ◌^◌, List, ℕ, Option, Some, None, bytes_eq, option_map, option_copied, if◌then◌else◌, IfSome, OnOk, OnErr, ◌∷◌};
+ghost use Rattle.std.specs.Prelude.{◌≡◌, ◌<◌, ◌^◌, List, ℕ, Option, Some, None, bytes_eq, option_map, option_copied, if◌then◌else◌, IfOk, IfSome, OnOk, OnErr, IsSome, ◌∷◌};
 ghost use Rattle.std.specs.Ordering.{nat_cmp};
 ghost use Rattle.std.specs.List.{IsDistinct};
 ghost use Rattle.std.specs.Map.{keys_of, lookup, set_value};
@@ -9,9 +9,10 @@ ghost use Rattle.std.specs.FinMap as finite;
 ghost use Rattle.std.specs.HashMap.{spare};
 ghost use Rattle.arc_core.specs.Places.{others};
 ghost use Rattle.byte_account.specs.ByBytes.{map_by_bytes};
+ghost use Rattle.byte_account.specs.Weight.{place_weight, weight_under};
 
 use crate::Weighs;
-use crate::recency_list::RecencyList;
+use crate::recency_list::{RecencyList, weigh_place};
 use arc_core::NoMemory;
 use std::alloc::Global;
 use std::collections::HashMap;
@@ -61,6 +62,16 @@ impl<T: Weighs> StickyTable<T> {
         self.table.get(key)
     }
 
+    /// What the key's place weighs; 0 where it has none.
+    pub(crate) fn weight(&self, key: &[u8]) -> u64
+        ensures { result ≡ weight_under (place_weight T.weigh) key.now (finite.get self.now key.now) }
+    {
+        match self.get(key) {
+            Some(place) => weigh_place(key, place),
+            None => 0,
+        }
+    }
+
     /// Puts something else into the key's place, where it has one, and hands out what stood there.
     pub(crate) fn replace(&mut self, key: &[u8], place: Option<T>) -> Option<Option<T>>
         ensures old { result ≡ finite.get self.old key.now }
@@ -93,27 +104,33 @@ impl<T: Weighs> StickyTable<T> {
         self.table.clear();
     }
 
-    /// Moves the key's place here from the list. A refusal changes neither.
+    /// Moves the key's place here from the list, where it has one. Answers what the place weighs. A refusal changes
+    /// neither.
     pub(crate) fn take_from(
         &mut self,
         list: &mut RecencyList<T>,
         key: &[u8],
-    ) -> Result<(), NoMemory>
+    ) -> Result<u64, NoMemory>
         requires { IsDistinct bytes_eq (keys_of list.old) }
+        ensures weight { IfOk result (λ weight. weight ≡ weight_under (place_weight T.weigh) key.now (lookup (bytes_eq key.now) list.old)) }
         ensures list { OnOk result (list.new ≡ others key.now list.old) }
         ensures table { OnOk result ((place : Option T) → lookup (bytes_eq key.now) list.old ≡ Some place → self.new ≡ finite.insert self.old key.now place) }
         ensures err { OnErr result ((list.new ≡ list.old) × (self.new ≡ self.old)) }
     {
         self.table.reserve(1)?;
-        if let Some((key, place)) = list.remove(key) {
-            insert_spare(&mut self.table, key, place);
-        }
-        Ok(())
+        let Some((key, place)) = list.remove(key) else {
+            return Ok(0);
+        };
+        let weight = weigh_place(key.as_slice(), &place);
+        insert_spare(&mut self.table, key, place);
+        Ok(weight)
     }
 
-    /// Moves the key's place to the front of the list. A refusal changes neither.
-    pub(crate) fn give_to(&mut self, list: &mut RecencyList<T>, key: &[u8]) -> Result<(), NoMemory>
+    /// Moves the key's place to the front of the list, where it has one. Answers what the place weighs. A refusal changes
+    /// neither.
+    pub(crate) fn give_to(&mut self, list: &mut RecencyList<T>, key: &[u8]) -> Result<u64, NoMemory>
         requires { lookup (bytes_eq key.now) list.old ≡ None }
+        ensures weight { IfOk result (λ weight. weight ≡ weight_under (place_weight T.weigh) key.now (finite.get self.old key.now)) }
         ensures list { OnOk result ((place : Option T) → finite.get self.old key.now ≡ Some place → list.new ≡ (key.now, place) ∷ list.old) }
         ensures table { OnOk result (self.new ≡ finite.remove self.old key.now) }
         ensures err { OnErr result ((list.new ≡ list.old) × (self.new ≡ self.old)) }
@@ -121,12 +138,62 @@ impl<T: Weighs> StickyTable<T> {
         // So that the place can come back where the list is refused memory.
         self.table.reserve(1)?;
         let Some((key, place)) = self.table.remove_entry(key) else {
-            return Ok(());
+            return Ok(0);
         };
+        let weight = weigh_place(key.as_slice(), &place);
         match list.put_first(key, place) {
-            Ok(()) => Ok(()),
+            Ok(()) => Ok(weight),
             Err((key, place)) => {
                 insert_spare(&mut self.table, key, place);
+                Err(NoMemory)
+            }
+        }
+    }
+
+    /// Takes the key's place away from the list, where it has one, and makes one here with this in it. A refusal changes
+    /// neither.
+    pub(crate) fn replace_from(
+        &mut self,
+        list: &mut RecencyList<T>,
+        key: &[u8],
+        place: Option<T>,
+    ) -> Result<(), NoMemory>
+        requires { IsDistinct bytes_eq (keys_of list.old) }
+        ensures list { OnOk result (list.new ≡ others key.now list.old) }
+        ensures table { OnOk result (IsSome (lookup (bytes_eq key.now) list.old) → self.new ≡ finite.insert self.old key.now place) }
+        ensures err { OnErr result ((list.new ≡ list.old) × (self.new ≡ self.old)) }
+    {
+        self.table.reserve(1)?;
+        let Some((key, _)) = list.remove(key) else {
+            return Ok(());
+        };
+        insert_spare(&mut self.table, key, place);
+        Ok(())
+    }
+
+    /// Takes the key's place away, where it has one, and makes one in front of the list with this in it. Hands out what
+    /// stood there. A refusal changes neither.
+    pub(crate) fn replace_onto(
+        &mut self,
+        list: &mut RecencyList<T>,
+        key: &[u8],
+        place: Option<T>,
+    ) -> Result<Option<T>, NoMemory>
+        requires { lookup (bytes_eq key.now) list.old ≡ None }
+        ensures list { OnOk result (IsSome (finite.get self.old key.now) → list.new ≡ (key.now, place) ∷ list.old) }
+        ensures table { OnOk result (self.new ≡ finite.remove self.old key.now) }
+        ensures err { OnErr result ((list.new ≡ list.old) × (self.new ≡ self.old)) }
+    {
+        // So that the place can come back where the list is refused memory.
+        self.table.reserve(1)?;
+        let Some((key, old)) = self.table.remove_entry(key) else {
+            return Ok(None);
+        };
+        match list.put_first(key, place) {
+            Ok(()) => Ok(old),
+            Err((key, refused)) => {
+                mem::drop(refused);
+                insert_spare(&mut self.table, key, old);
                 Err(NoMemory)
             }
         }

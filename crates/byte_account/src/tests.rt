@@ -32,6 +32,8 @@ fn put<T: Weighs>(
     let key = Key::copy(alloc, key)?;
     shelf.remove(name);
     shelf.reserve_new(key, !sticky)?;
+    // (The sticky total is within the share, so that a hollow place may be sticky.)
+    let _ = shelf.sticky_total();
     shelf.restick(name, sticky)?;
     Ok(fill(shelf, name, item))
 }
@@ -43,15 +45,15 @@ fn replace<T: Weighs>(shelf: &mut Shelf<T>, name: &[u8], item: T) -> Option<T> {
     Some(old)
 }
 
-// Lays the item into the hollow place where there is room for it at once, and else takes the place away. Answers what
-// room was.
+// Lays the item into the hollow place where there is room for it at once, on either side, and else takes the place away.
+// Answers what room was.
 fn fill<T: Weighs>(shelf: &mut Shelf<T>, name: &[u8], item: T) -> Room
     requires { found name.now shelf.old ≡ Some None }
 {
     let Ok(extra) = i64::try_from(item.weight(name)) else {
         return Room::Nothing;
     };
-    let room = shelf.room(name, extra);
+    let room = shelf.room(name, extra, extra);
     match room {
         Room::Fits(0) => shelf.lay(name, item),
         _ => shelf.cancel(name),
@@ -61,7 +63,7 @@ fn fill<T: Weighs>(shelf: &mut Shelf<T>, name: &[u8], item: T) -> Room
 
 // Evicts what room asks for, and answers what it was.
 fn make_room<T: Weighs>(shelf: &mut Shelf<T>, name: &[u8], extra: i64) -> Room {
-    let room = shelf.room(name, extra);
+    let room = shelf.room(name, extra, 0);
     if let Room::Fits(evictions) = room {
         shelf.evict(name, evictions);
     }
@@ -183,17 +185,52 @@ const ROOMS: [(Standing, Asked); 5] = [
     ),
 ];
 
+// What room is under a key for so many bytes more, so many of them among the sticky items. The limit is 100 bytes, of
+// which sticky items may take 40; a weighs 10, and s, which is sticky, 25.
+const SHARES: [(&[u8; 1], i64, i64, Room); 13] = [
+    (b"d", 15, 15, Room::Fits(0)),
+    (b"d", 16, 16, Room::Nothing),
+    (b"d", 65, 15, Room::Fits(0)),
+    (b"d", 75, 15, Room::Fits(1)),
+    (b"d", 76, 15, Room::Nothing),
+    (b"d", 65, 16, Room::Nothing),
+    (b"d", 75, 0, Room::Fits(1)),
+    (b"a", 0, 10, Room::Fits(0)),
+    (b"a", 5, 15, Room::Fits(0)),
+    (b"a", 6, 16, Room::Nothing),
+    (b"s", 15, 15, Room::Fits(0)),
+    (b"s", -5, 16, Room::Nothing),
+    (b"s", 66, -25, Room::Fits(1)),
+];
+
+#[test]
+fn makes_no_room_in_the_share(rt: HostRuntime) -> Result<(), Fail> {
+    let mut shelf = Shelf::new(rt.alloc(), 100, 40)?;
+    for (key, size, sticky) in [(b"a", 10, false), (b"s", 25, true)] {
+        let key = KeyRef::of(key);
+        let room = put(&mut shelf, rt.alloc(), key, Parcel { size }, sticky)?;
+        assert_eq!(rt; room, Room::Fits(0));
+    }
+    assert_eq!(rt; (shelf.total(), shelf.sticky_total()), (35, 25));
+    for (key, extra, sticky_extra, room) in SHARES {
+        assert_eq!(rt; shelf.room(key, extra, sticky_extra), room, "for {extra}");
+    }
+    assert_eq!(rt; shelf.remove(b"s"), Some(Parcel { size: 25 }));
+    assert_eq!(rt; (shelf.total(), shelf.sticky_total()), (10, 0));
+    Ok(())
+}
+
 #[test]
 fn tells_room_for_every_key(rt: HostRuntime) -> Result<(), Fail> {
     for (standing, asked) in ROOMS {
-        let mut shelf = Shelf::new(rt.alloc(), 100)?;
+        let mut shelf = Shelf::new(rt.alloc(), 100, 100)?;
         for (key, size, sticky) in standing {
             let parcel = Parcel { size: *size };
             let room = put(&mut shelf, rt.alloc(), KeyRef::read(*key)?, parcel, *sticky)?;
             assert_eq!(rt; room, Room::Fits(0));
         }
         for (key, extra, room) in asked {
-            assert_eq!(rt; shelf.room(*key, *extra), *room, "for {extra}");
+            assert_eq!(rt; shelf.room(*key, *extra, 0), *room, "for {extra}");
         }
     }
     Ok(())
@@ -201,7 +238,7 @@ fn tells_room_for_every_key(rt: HostRuntime) -> Result<(), Fail> {
 
 #[test]
 fn accounts_and_evicts(rt: HostRuntime) -> Result<(), Fail> {
-    let mut shelf = Shelf::new(rt.alloc(), 100)?;
+    let mut shelf = Shelf::new(rt.alloc(), 100, 100)?;
     // Weights 10, 20 and 30; c is the most recently used.
     for (key, size) in [(b"a", 10), (b"b", 20), (b"c", 30)] {
         assert_eq!(rt;
@@ -230,7 +267,7 @@ fn accounts_and_evicts(rt: HostRuntime) -> Result<(), Fail> {
         (b"b", 81, Room::Nothing),
     ];
     for (key, extra, room) in rooms {
-        assert_eq!(rt; shelf.room(key, extra), room, "for {extra}");
+        assert_eq!(rt; shelf.room(key, extra, 0), room, "for {extra}");
     }
     assert_eq!(rt; make_room(&mut shelf, b"b", 41), Room::Fits(1));
     assert_eq!(rt; sizes(&shelf), [Some(10), Some(20), None]);
@@ -252,8 +289,8 @@ fn accounts_and_evicts(rt: HostRuntime) -> Result<(), Fail> {
         )?,
         Room::Fits(0)
     );
-    assert_eq!(rt; (shelf.total(), shelf.room(b"d", 60)), (60, Room::Fits(1)));
-    assert_eq!(rt; shelf.room(b"d", 61), Room::Nothing);
+    assert_eq!(rt; (shelf.total(), shelf.room(b"d", 60, 0)), (60, Room::Fits(1)));
+    assert_eq!(rt; shelf.room(b"d", 61, 0), Room::Nothing);
     assert_eq!(rt;
         put(
             &mut shelf,

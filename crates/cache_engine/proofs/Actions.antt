@@ -9,27 +9,25 @@ use Rattle.arc_core.specs.declared.replies.Reply.TheVariants as reply
 use Rattle.arc_core.specs.declared.replies.Word.TheVariants as word
 use Rattle.arc_core.specs.PlainRequest as act
 use Rattle.arc_core.specs.Item.{Item, key_value, size_of, expiry_of, with_expiry, expiry_at, has_expired, is_sticky}
-use Rattle.arc_core.specs.Places.{Places, found, touched, placed, without, total_of}
+use Rattle.arc_core.specs.Places.{Places, found, brought_to_front, placed, without, total_of}
 use Rattle.arc_core.specs.Room.{room, evicted}
 use Rattle.arc_core.specs.CacheState.{CacheState}
-use Rattle.arc_core.specs.Step.{Plan, put_behind, plan_of_store, plan_of_count, plan_of_delete, plan_of_touch, carried_out, ended}
+use Rattle.arc_core.specs.Step.{Plan, room_for, put_behind, plan_of_store, plan_of_count, plan_of_delete, plan_of_touch, carried_out, ended}
 use Rattle.byte_account.proofs.FoundLaws.{found-placed, found-without}
-use Rattle.byte_account.proofs.RoomLaws.{room-nothing_added, fits_nothing_added}
 use Rattle.byte_account.proofs.MovedLaws.{evicted-none}
 use Rattle.cache_engine.specs.declared.plans.Planned.{Planned}
-use Rattle.cache_engine.specs.declared.standing.Standing.{Standing}
-use Rattle.cache_engine.specs.declared.standing.Standing.TheVariants as standing
+use Rattle.cache_engine.specs.declared.key_state.KeyState.{KeyState}
+use Rattle.cache_engine.specs.declared.key_state.KeyState.TheVariants as key_state
 use Rattle.cache_engine.specs.Changes.{evicted_for, HasExpiry}
 use Rattle.cache_engine.specs.Planning.{Plans, state_at}
-use Rattle.cache_engine.specs.Starting.{standing_of, live_of, IsExpiringInStep}
-use Rattle.cache_engine.specs.Acting.{start_at, Acts, Finishes, Tells}
-use Rattle.cache_engine.proofs.Retimings.{size_stays}
+use Rattle.cache_engine.specs.Starting.{key_state_of, live_of, HasExpiryInStep}
+use Rattle.cache_engine.specs.Acting.{start_at, Acts, Finishes, Answers}
 use Rattle.cache_engine.proofs.ItemPlaces.{sticky_stays}
 use Rattle.cache_engine.proofs.Finishing.{late_of, late_is, found_live, start_live, used_absent, used_held}
 
-no_live_by : (latest : ℕ) (item : Item) (late : Bool) (s : Standing) → s ≡ standing_of latest (Some item) → has_expired latest (expiry_of item) ≡ late → (s ≡ standing.Live → ⊥) → live_of latest (Some item) ≡ None
+no_live_by : (latest : ℕ) (item : Item) (late : Bool) (s : KeyState) → s ≡ key_state_of latest (Some item) → has_expired latest (expiry_of item) ≡ late → (s ≡ key_state.Live → ⊥) → live_of latest (Some item) ≡ None
 no_live_by latest item true s is e other = ap (λ b. cond b None (Some item)) e
-no_live_by latest item false s is e other = absurd (other (is ∙ ap (λ b. cond b standing.Expired standing.Live) e))
+no_live_by latest item false s is e other = absurd (other (is ∙ ap (λ b. cond b key_state.Expired key_state.Live) e))
 
 module _ (old : CacheState) (now : ℕ) (key : List ℕ) (new : CacheState) (answer : Reply) where
   finished : (a : act.PlainAct) (plan : Plan) → Finishes old now key plan answer new
@@ -62,19 +60,19 @@ module _ (old : CacheState) (now : ℕ) (key : List ℕ) (new : CacheState) (ans
 
   -- a word that is answered where the key's item is not live
 
-  not_live : (latest : ℕ) (o : Option Item) (s : Standing) → s ≡ standing_of latest o → (s ≡ standing.Live → ⊥) → live_of latest o ≡ None
+  not_live : (latest : ℕ) (o : Option Item) (s : KeyState) → s ≡ key_state_of latest o → (s ≡ key_state.Live → ⊥) → live_of latest o ≡ None
   not_live latest None s is other = refl
   not_live latest (Some item) s is other = no_live_by latest item (has_expired latest (expiry_of item)) s is refl other
 
-  pub not_deleted : (s : Standing) → s ≡ standing_of (max old.latest now) (found key old.places) → (s ≡ standing.Live → ⊥) → Tells old now key word.NotFound answer new → Acts old now (act.delete key) answer new
-  not_deleted s is other told =
+  pub not_deleted : (s : KeyState) → s ≡ key_state_of (max old.latest now) (found key old.places) → (s ≡ key_state.Live → ⊥) → Answers old now key word.NotFound answer new → Acts old now (act.delete key) answer new
+  not_deleted s is other says =
       let none : found key (start_at old now key).places ≡ None = found_live (max old.latest now) key old.places ∙ not_live (max old.latest now) (found key old.places) s is other in
-      inl (ap (λ o. ended (start_at old now key) (key ∷ []) (carried_out (start_at old now key) (plan_of_delete key o))) none ∙ told)
+      inl (ap (λ o. ended (start_at old now key) (key ∷ []) (carried_out (start_at old now key) (plan_of_delete key o))) none ∙ says)
 
-  pub not_touched : (exptime : ℤ) (s : Standing) → s ≡ standing_of (max old.latest now) (found key old.places) → (s ≡ standing.Live → ⊥) → Tells old now key word.NotFound answer new → Acts old now (act.touch key exptime) answer new
-  not_touched exptime s is other told =
+  pub not_touched : (exptime : ℤ) (s : KeyState) → s ≡ key_state_of (max old.latest now) (found key old.places) → (s ≡ key_state.Live → ⊥) → Answers old now key word.NotFound answer new → Acts old now (act.touch key exptime) answer new
+  not_touched exptime s is other says =
       let none : found key (start_at old now key).places ≡ None = found_live (max old.latest now) key old.places ∙ not_live (max old.latest now) (found key old.places) s is other in
-      inl (ap (λ o. ended (start_at old now key) (key ∷ []) (carried_out (start_at old now key) (plan_of_touch (start_at old now key) key exptime o))) none ∙ told)
+      inl (ap (λ o. ended (start_at old now key) (key ∷ []) (carried_out (start_at old now key) (plan_of_touch (start_at old now key) key exptime o))) none ∙ says)
 
 -- where the key's item is live
 
@@ -83,12 +81,12 @@ pub record IsLive (latest : ℕ) (key : List ℕ) (places : Places Item) : Type 
   pub there : found key places ≡ Some item
   pub lives : has_expired latest (expiry_of item) ≡ false
 
-is_live_by : (latest : ℕ) (key : List ℕ) (places : Places Item) (o : Option Item) (late : Bool) → found key places ≡ o → ((item : Item) → o ≡ Some item → has_expired latest (expiry_of item) ≡ late) → standing.Live ≡ standing_of latest o → IsLive latest key places
+is_live_by : (latest : ℕ) (key : List ℕ) (places : Places Item) (o : Option Item) (late : Bool) → found key places ≡ o → ((item : Item) → o ≡ Some item → has_expired latest (expiry_of item) ≡ late) → key_state.Live ≡ key_state_of latest o → IsLive latest key places
 is_live_by latest key places None late h time is = absurd (cc)
-is_live_by latest key places (Some item) true h time is = absurd (let k : standing.Live ≡ standing.Expired = is ∙ ap (λ b. cond b standing.Expired standing.Live) (time item refl) in cc)
+is_live_by latest key places (Some item) true h time is = absurd (let k : key_state.Live ≡ key_state.Expired = is ∙ ap (λ b. cond b key_state.Expired key_state.Live) (time item refl) in cc)
 is_live_by latest key places (Some item) false h time is = record { item = item; there = h; lives = time item refl }
 
-pub is_live : (latest : ℕ) (key : List ℕ) (places : Places Item) → standing.Live ≡ standing_of latest (found key places) → IsLive latest key places
+pub is_live : (latest : ℕ) (key : List ℕ) (places : Places Item) → key_state.Live ≡ key_state_of latest (found key places) → IsLive latest key places
 is_live latest key places = is_live_by latest key places (found key places) (late_of latest (found key places)) refl (late_is latest (found key places))
 
 module _ (old : CacheState) (now : ℕ) (key : List ℕ) (live : IsLive (max old.latest now) key old.places) where
@@ -106,7 +104,7 @@ module _ (old : CacheState) (now : ℕ) (key : List ℕ) (live : IsLive (max old
       ∙ ap (λ p. (record gone { places = p }, reply.Word word.Deleted)) (used_absent (max old.latest now) key (without key old.places) (found-without key old.places))
       ∙ ap (λ s. (s, reply.Word word.Deleted)) (sym e))
 
-  pub touched_is : (exptime : ℤ) (new : CacheState) (places : Places Item) → IsExpiringInStep (max old.latest now) key (expiry_at (max old.latest now) exptime) old.places places → new ≡ record here { places = places } → Acts old now (act.touch key exptime) (reply.Word word.Touched) new
+  pub touched_is : (exptime : ℤ) (new : CacheState) (places : Places Item) → HasExpiryInStep (max old.latest now) key (expiry_at (max old.latest now) exptime) old.places places → new ≡ record here { places = places } → Acts old now (act.touch key exptime) (reply.Word word.Touched) new
   touched_is exptime new places r e =
       let item = with_expiry (expiry_at (max old.latest now) exptime) r.item in
       inl (ap (λ s. ended s (key ∷ []) (carried_out s (plan_of_touch s key exptime (found key s.places)))) live_start
@@ -115,36 +113,43 @@ module _ (old : CacheState) (now : ℕ) (key : List ℕ) (live : IsLive (max old
       ∙ ap (λ p. (record here { places = p }, reply.Word word.Touched)) (sym r.places)
       ∙ ap (λ s. (s, reply.Word word.Touched)) (sym e))
 
-  pub touch_refused : (exptime : ℤ) (new : CacheState) → ((item : Item) → found key old.places ≡ Some item → is_sticky (expiry_of item) ≢ is_sticky (expiry_at (max old.latest now) exptime)) → new ≡ old → Acts old now (act.touch key exptime) (reply.Word word.NoMemory) new
-  touch_refused exptime new moves e =
-      inr ((live.item, ap (λ s. found key s.places) live_start ∙ live.there, moves live.item live.there), refl, e)
+  -- `touch`, where the item may not get to be sticky
+  pub touch_no_room : (exptime : ℤ) (new : CacheState) → ((item : Item) → found key old.places ≡ Some item → evicted_for key (with_expiry (expiry_at (max old.latest now) exptime) item) old.places ≡ None) → new ≡ here
+      → Acts old now (act.touch key exptime) (reply.Word word.OutOfMemory) new
+  touch_no_room exptime new none e =
+      let item = with_expiry (expiry_at (max old.latest now) exptime) live.item in
+      inl (ap (λ s. ended s (key ∷ []) (carried_out s (plan_of_touch s key exptime (found key s.places)))) live_start
+      ∙ ap (λ o. ended here (key ∷ []) (carried_out here (plan_of_touch here key exptime o))) live.there
+      ∙ ap (λ o. ended here (key ∷ []) (option_map (λ gone. (record here { counter = old.counter; places = put_behind (length gone) key item old.places }, reply.Word word.Touched)) o)) (none live.item live.there)
+      ∙ ap (λ s. (s, reply.Word word.OutOfMemory)) (sym e))
 
--- another expiry asks for other room
+  pub touch_refused : (exptime : ℤ) (new : CacheState) → ((item : Item) → found key old.places ≡ Some item → (is_sticky (expiry_of item) ≢ is_sticky (expiry_at (max old.latest now) exptime)) × (evicted_for key (with_expiry (expiry_at (max old.latest now) exptime) item) old.places ≢ None))
+      → new ≡ old → Acts old now (act.touch key exptime) (reply.Word word.NoMemory) new
+  touch_refused exptime new wants e =
+      let w = wants live.item live.there in
+      inr (
+        (live.item, ap (λ s. found key s.places) live_start ∙ live.there, w.0, λ none. w.1 (sym (ap (λ s. room_for s key (with_expiry (expiry_at (max old.latest now) exptime) live.item)) live_start) ∙ none)),
+        refl,
+        e,
+      )
 
-no_more : (n : ℕ) → (pos n -ℤ pos n) ≤ℤ pos 0
-no_more n = omega (arith, ints)
+-- another expiry, and a use of the key
 
-module _ (latest : ℕ) (key : List ℕ) (expiry : Expiry) (old new : Places Item) (h : HasExpiry key expiry old new) (within : total_of size_of old ≤ old.limit) where
-  no_extra : evicted_for key (with_expiry expiry h.item) old ≡ Some []
-  no_extra =
-      ap (λ o. room size_of old key (pos (size_of key (with_expiry expiry h.item)) -ℤ pos (option_map_or (size_of key) o 0))) h.held
-      ∙ ap (λ n. room size_of old key (pos n -ℤ pos (size_of key h.item))) (size_stays key expiry h.item)
-      ∙ room-nothing_added size_of old key (pos (size_of key h.item) -ℤ pos (size_of key h.item)) (fits_nothing_added old.limit (total_of size_of old) (pos (size_of key h.item) -ℤ pos (size_of key h.item)) within (no_more (size_of key h.item)))
-
+module _ (latest : ℕ) (key : List ℕ) (expiry : Expiry) (old new : Places Item) (h : HasExpiry key expiry old new) where
   expiry_is : (item : Item) → expiry_of (with_expiry expiry item) ≡ expiry
   expiry_is (key_value flags was unique value) = refl
 
   put_is : put_behind 0 key (with_expiry expiry h.item) old ≡ new
   put_is = (λ i. placed (sticky_stays expiry h.item i) key (with_expiry expiry h.item) (evicted-none key old i)) ∙ sym h.places
 
-  pub expiring : (used_new : Places Item) → used_new ≡ cond (has_expired latest expiry) new (touched key new) → IsExpiringInStep latest key expiry old used_new
-  expiring used_new e =
+  pub set_in_step : (used_new : Places Item) → used_new ≡ cond (has_expired latest expiry) new (brought_to_front key new) → HasExpiryInStep latest key expiry old used_new
+  set_in_step used_new e =
       let item = with_expiry expiry h.item in
       record {
         item = h.item;
         held = h.held;
-        fits = no_extra;
+        fits = h.fits;
         places =
-            e ∙ ap (λ q. cond (has_expired latest expiry) q (touched key q)) (sym put_is)
+            e ∙ ap (λ q. cond (has_expired latest expiry) q (brought_to_front key q)) (sym put_is)
             ∙ sym (used_held latest key (put_behind 0 key item old) item (has_expired latest expiry) (found-placed key (is_sticky (expiry_of item)) item (evicted key 0 old)) (ap (has_expired latest) (expiry_is h.item)));
       }

@@ -12,21 +12,17 @@ use Rattle.arc_core.specs.PlainRequest as act
 use Rattle.arc_core.specs.Words.{number_below}
 use Rattle.arc_core.specs.Item.{Item, key_value, size_of, expiry_of, is_sticky}
 use Rattle.arc_core.specs.Places.{placed, total_of}
-use Rattle.arc_core.specs.Room.{room}
 use Rattle.arc_core.specs.CacheState.{CacheState, IsState}
-use Rattle.arc_core.specs.Step.{Plan, tell, put, take_away, take_all, extra_of, put_behind, carried_out, ended, named_keys, started, step, put_joined, plan_of_store, plan_of_next, plan_of_count, plan_of_delete, plan_of_touch, plan_of}
-use Rattle.byte_account.specs.declared.room.Room.TheVariants.{Nothing}
+use Rattle.arc_core.specs.Step.{Plan, answer_only, put, take_away, take_all, extra_of, sticky_extra_of, room_for, put_behind, carried_out, ended, named_keys, started, step, put_joined, plan_of_store, plan_of_next, plan_of_count, plan_of_delete, plan_of_touch, plan_of}
+use Rattle.byte_account.specs.declared.room.Room.TheVariants.{Fits, Nothing}
 use Rattle.byte_account.specs.ShelfWords.{room_answer}
 use Rattle.byte_account.proofs.RoomLaws.{IsLeastEviction-room, room-nothing_added, fits_nothing_added}
 use Rattle.byte_account.proofs.MovedLaws.{evicted-none}
-use Rattle.cache_engine.specs.Evicting.{MakesRoom, EvictsLeast, EvictsNothing}
+use Rattle.cache_engine.specs.Evicting.{MakesRoom, EvictsLeast, has_share, EvictsNothing}
 
 module _ (state : CacheState) (key : List ℕ) (item : Item) where
-  abbrev gone_for : Option (List (List ℕ × Item))
-  gone_for = room size_of state.places key (extra_of state key item)
-
-  least : (suffix : Option (List (List ℕ × Item))) → gone_for ≡ suffix → MakesRoom state key item (room_answer suffix)
-  least suffix h = subst (λ g. MakesRoom state key item (room_answer g)) h (IsLeastEviction-room size_of state.places key (extra_of state key item))
+  least : (suffix : Option (List (List ℕ × Item))) → room_for state key item ≡ suffix → MakesRoom state key item (room_answer suffix)
+  least suffix h = subst (λ g. MakesRoom state key item (room_answer g)) h (IsLeastEviction-room size_of state.places key (extra_of state key item) (sticky_extra_of state key item))
 
   module _ (counter : ℕ) (reply : Reply) where
     abbrev after : ℕ → CacheState
@@ -35,39 +31,45 @@ module _ (state : CacheState) (key : List ℕ) (item : Item) where
     abbrev outcome : Option (List (List ℕ × Item)) → Option (CacheState × Reply)
     outcome = option_map {U = CacheState × Reply} (λ g. (after (length g), reply))
 
-    put_by : (new : CacheState) (told : Reply) (gone : Option (List (List ℕ × Item))) → gone_for ≡ gone → outcome gone ≡ Some (new, told) → EvictsLeast state key item new
-    put_by new told None h e = absurd (cc)
-    put_by new told (Some gone) h e = record {
+    put_by : (new : CacheState) (answer : Reply) (gone : Option (List (List ℕ × Item))) → room_for state key item ≡ gone → outcome gone ≡ Some (new, answer) → EvictsLeast state key item new
+    put_by new answer None h e = absurd (cc)
+    put_by new answer (Some gone) h e = record {
       evictions = length gone;
       least = least (Some gone) h;
       places = sym (ap (λ o. (unwrap_or {T = CacheState × Reply} o (state, reply)).0.places) e);
     }
 
-    pub evicts_least : (new : CacheState) (told : Reply) → carried_out state (put key item counter reply) ≡ Some (new, told) → EvictsLeast state key item new
-    evicts_least new told = put_by new told gone_for refl
+    pub evicts_least : (new : CacheState) (answer : Reply) → carried_out state (put key item counter reply) ≡ Some (new, answer) → EvictsLeast state key item new
+    evicts_least new answer = put_by new answer (room_for state key item) refl
 
-    refused_by : (gone : Option (List (List ℕ × Item))) → gone_for ≡ gone → outcome gone ≡ None → MakesRoom state key item Nothing
+    refused_by : (gone : Option (List (List ℕ × Item))) → room_for state key item ≡ gone → outcome gone ≡ None → MakesRoom state key item Nothing
     refused_by None h e = least None h
     refused_by (Some gone) h e = absurd (cc)
 
     pub none_makes_room : carried_out state (put key item counter reply) ≡ None → MakesRoom state key item Nothing
-    none_makes_room = refused_by gone_for refl
+    none_makes_room = refused_by (room_for state key item) refl
+
+    nothing_by : (kept : Bool) → room_for state key item ≡ cond kept (Some []) None → MakesRoom state key item (cond kept (Fits 0) Nothing)
+    nothing_by true h = least (Some []) h
+    nothing_by false h = least None h
+
+    outcome_by : (kept : Bool) → outcome (cond kept (Some []) None) ≡ cond kept (Some (record state { counter = counter; places = placed (is_sticky (expiry_of item)) key item state.places }, reply)) None
+    outcome_by true = ap (λ p. Some (record state { counter = counter; places = placed (is_sticky (expiry_of item)) key item p }, reply)) (evicted-none key state.places)
+    outcome_by false = refl
 
     pub evicts_nothing : IsState state → extra_of state key item ≤ℤ pos 0 → EvictsNothing state key item counter reply
     evicts_nothing rules no_more =
-        let none : gone_for ≡ Some [] = room-nothing_added size_of state.places key (extra_of state key item) (fits_nothing_added state.places.limit (total_of size_of state.places) (extra_of state key item) rules.within no_more) in
-        record {
-          least = least (Some []) none;
-          places = ap outcome none ∙ ap (λ p. Some (record state { counter = counter; places = placed (is_sticky (expiry_of item)) key item p }, reply)) (evicted-none key state.places);
-        }
+        let none : room_for state key item ≡ cond (has_share state key item) (Some []) None =
+        room-nothing_added size_of state.places key (extra_of state key item) (sticky_extra_of state key item) (fits_nothing_added state.places.limit (total_of size_of state.places) (extra_of state key item) rules.within no_more) in
+        record { least = nothing_by (has_share state key item) none; places = ap outcome none ∙ outcome_by (has_share state key item) }
 
-pub tells : (state new : CacheState) (reply told : Reply) → carried_out state (tell reply) ≡ Some (new, told) → new.places ≡ state.places
-tells state new reply told e = sym (ap (λ o. (unwrap_or {T = CacheState × Reply} o (state, reply)).0.places) e)
+pub answers : (state new : CacheState) (reply answer : Reply) → carried_out state (answer_only reply) ≡ Some (new, answer) → new.places ≡ state.places
+answers state new reply answer e = sym (ap (λ o. (unwrap_or {T = CacheState × Reply} o (state, reply)).0.places) e)
 
 -- no row of the table answers `out of memory`
 
 says : Plan → Reply
-says (tell reply) = reply
+says (answer_only reply) = reply
 says (put key item counter reply) = reply
 says (take_away key reply) = reply
 says (take_all reply) = reply
@@ -135,8 +137,8 @@ put_says (Some gone) after reply done e = sym (ap (λ o. (unwrap_or {T = CacheSt
 
 done_says : (state : CacheState) (plan : Plan) (done : CacheState × Reply) → carried_out state plan ≡ Some done → done.1 ≡ says plan
 unfolding says
-done_says state (tell reply) done e = sym (ap (λ o. (unwrap_or {T = CacheState × Reply} o done).1) e)
-done_says state (put key item counter reply) done e = put_says (room size_of state.places key (extra_of state key item)) _ reply done e
+done_says state (answer_only reply) done e = sym (ap (λ o. (unwrap_or {T = CacheState × Reply} o done).1) e)
+done_says state (put key item counter reply) done e = put_says (room_for state key item) _ reply done e
 done_says state (take_away key reply) done e = sym (ap (λ o. (unwrap_or {T = CacheState × Reply} o done).1) e)
 done_says state (take_all reply) done e = sym (ap (λ o. (unwrap_or {T = CacheState × Reply} o done).1) e)
 

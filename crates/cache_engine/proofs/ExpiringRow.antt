@@ -36,27 +36,27 @@ get_a = record { act = get (a ∷ []) false; answer = answer.Plain }
 
 -- the item is held, and the latest second is this
 abbrev pub held_at : ℕ → CacheState
-held_at latest = state_at latest 1 (only a item limit)
+held_at latest = state_at latest 1 (only a item limit limit)
 
-pub set_is_stored : step (opening_state limit) 1000 set_a ≡ (held_at 1000, reply.Word word.Stored)
+pub set_is_stored : step (opening_state limit limit) 1000 set_a ≡ (held_at 1000, reply.Word word.Stored)
 set_is_stored =
-    ap (λ start. ended start (a ∷ []) (carried_out start (plan_of start set_a.act))) (starts a 1000 limit)
-    ∙ put_first a item limit 1000 1 (reply.Word word.Stored) (omega arith) refl
+    ap (λ start. ended start (a ∷ []) (carried_out start (plan_of start set_a.act))) (starts a 1000 limit limit)
+    ∙ put_first a item limit limit 1000 1 (reply.Word word.Stored) (omega arith) refl
 
 -- a second before, it is found
 pub get_finds_it : step (held_at 1000) 1009 get_a ≡ (held_at 1009, reply.Values (row ∷ []))
 get_finds_it = refl
 
 -- nothing is held, and that is what a retrieval finds
-finds_nothing : ended (state_at 1010 1 (empty_places limit)) (a ∷ []) (carried_out (state_at 1010 1 (empty_places limit)) (plan_of (state_at 1010 1 (empty_places limit)) get_a.act)) ≡ (state_at 1010 1 (empty_places limit), reply.Values [])
-finds_nothing = ap (λ o. (state_at 1010 1 (used_at 1010 a o (empty_places limit)), reply.Values (option_map_or (λ one. row_of_item false a one ∷ []) o []))) (found_none a limit)
+finds_nothing : ended (state_at 1010 1 (empty_places limit limit)) (a ∷ []) (carried_out (state_at 1010 1 (empty_places limit limit)) (plan_of (state_at 1010 1 (empty_places limit limit)) get_a.act)) ≡ (state_at 1010 1 (empty_places limit limit), reply.Values [])
+finds_nothing = ap (λ o. (state_at 1010 1 (used_at 1010 a o (empty_places limit limit)), reply.Values (option_map_or (λ one. row_of_item false a one ∷ []) o []))) (found_none a limit limit)
 
 -- at its second it is not, and nothing is held any more
-pub get_drops_it : step (held_at 1000) 1010 get_a ≡ (state_at 1010 1 (empty_places limit), reply.Values [])
+pub get_drops_it : step (held_at 1000) 1010 get_a ≡ (state_at 1010 1 (empty_places limit limit), reply.Values [])
 get_drops_it =
-    ap (λ m. let start : CacheState = state_at 1010 1 (record { shelf = []; sticky = m; limit = limit }) in ended start (a ∷ []) (carried_out start (plan_of start get_a.act))) (removed_none a)
+    ap (λ m. let start : CacheState = state_at 1010 1 (record { shelf = []; sticky = m; limit = limit; share = limit }) in ended start (a ∷ []) (carried_out start (plan_of start get_a.act))) (removed_none a)
     ∙ finds_nothing
 
 -- nor is it where it was found a second before
-pub get_drops_it_then : step (held_at 1009) 1010 get_a ≡ (state_at 1010 1 (empty_places limit), reply.Values [])
+pub get_drops_it_then : step (held_at 1009) 1010 get_a ≡ (state_at 1010 1 (empty_places limit limit), reply.Values [])
 get_drops_it_then = get_drops_it

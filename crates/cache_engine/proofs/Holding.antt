@@ -96,33 +96,3 @@ pub filled_with : (places : Places (Option Stored)) (stored : Places Stored) (it
 filled_with places stored items e f placed =
     let are : items_in places ≡ items = ap (λ p. map_places item_of (items_of p)) e ∙ ap (map_places item_of) (items_of-filled stored) ∙ f in
     record { holds = record { filled = subst (λ p. IsFilled p) (sym e) (IsFilled-filled stored); placed = subst (λ p. ArePlaced p) (sym are) placed }; are = are }
-
-off_by : (b : Bool) (key : List ℕ) (places : Places (Option Stored)) (old : Stored) → HasEachKeyOnce places → on_side (not b) key places ≡ Some (Some old) → on_side b key places ≡ None
-off_by true key places old is h = is.on_one_side key (ap is_some h)
-off_by false key places old is h = not_on_shelf places is key (ap is_some h)
-
--- what is held on one side is not on the other
-pub off_other : (key : List ℕ) (places : Places (Option Stored)) (item : Stored) → Holds places → IsHeldOn (not (sticky_of item)) key places → on_side (sticky_of item) key places ≡ None
-off_other key places item holds h = off_by (sticky_of item) key places h.0 (once places holds) h.2
-
-pub same_side : (a b : Bool) → beq a b ≡ true → a ≡ b
-same_side true true h = refl
-same_side false false h = refl
-same_side true false h = absurd (cc)
-same_side false true h = absurd (cc)
-
-pub other_side : (a b : Bool) → beq a b ≡ false → a ≡ not b
-other_side true false h = refl
-other_side false true h = refl
-other_side true true h = absurd (cc)
-other_side false false h = absurd (cc)
-
--- where the held item is on the side of the one that comes
-pub held_same : (key : List ℕ) (places : Places (Option Stored)) (old item : Stored) → Holds places → item_at key places ≡ Some old → beq (sticky_of old) (sticky_of item) ≡ true → IsHeldOn (sticky_of item) key places
-held_same key places old item holds h same =
-    (old, held key places old holds.filled h, subst (λ b. on_side b key places ≡ Some (Some old)) (same_side (sticky_of old) (sticky_of item) same) (held_on key places old holds h))
-
--- and where it is on the other
-pub held_across : (key : List ℕ) (places : Places (Option Stored)) (old item : Stored) → Holds places → item_at key places ≡ Some old → beq (sticky_of old) (sticky_of item) ≡ false → IsHeldOn (not (sticky_of item)) key places
-held_across key places old item holds h other =
-    (old, held key places old holds.filled h, subst (λ b. on_side b key places ≡ Some (Some old)) (other_side (sticky_of old) (sticky_of item) other) (held_on key places old holds h))

@@ -1,6 +1,5 @@
 pub mod Holding
-pub mod ShelfPuts
-pub mod Retimings
+pub mod ExpiryLaws
 pub mod ItemPlaces
 pub mod Finishing
 pub mod Actions

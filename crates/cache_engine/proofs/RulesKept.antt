@@ -12,41 +12,39 @@ use Rattle.arc_core.specs.declared.replies.Reply.{Reply}
 use Rattle.arc_core.specs.PlainRequest.{PlainAct, PlainRequest}
 use Rattle.arc_core.specs.PlainRequest as act
 use Rattle.arc_core.specs.Words.{words, number_below, keys_counted}
-use Rattle.arc_core.specs.KeyValueGrammar as grammar
-use Rattle.arc_core.specs.KeyValueGrammar.{Command}
+use Rattle.arc_core.specs.declared.commands.Command.{Command}
+use Rattle.arc_core.specs.declared.commands.Command.TheVariants as command
 use Rattle.arc_core.specs.Grammar.{act_of, IsBlockFor, CanBeSpelled}
 use Rattle.arc_core.specs.Item.{Item, key_value, IsItem, size_of, expiry_of, expiry_at, is_sticky, has_expired}
-use Rattle.arc_core.specs.Places.{Places, empty_places, found, touched, placed, without, total_of}
-use Rattle.arc_core.specs.Room.{room, fits, evicted}
+use Rattle.arc_core.specs.Places.{Places, empty_places, found, brought_to_front, placed, without, total_of, sticky_total_of}
+use Rattle.arc_core.specs.Room.{room, evicted}
 use Rattle.arc_core.specs.CacheState.{CacheState, IsState, ArePlaced}
-use Rattle.arc_core.specs.Step.{Plan, tell, put, take_away, take_all, extra_of, put_behind, carried_out, ended, named_keys, started, step, unexpired, without_expired, used, used_at, put_joined, counted, plan_of_store, plan_of_next, plan_of_count, plan_of_delete, plan_of_touch, plan_of}
-use Rattle.byte_account.specs.declared.room.Room.TheVariants.{Fits}
-use Rattle.byte_account.specs.LeastEviction.{IsLeastEviction}
-use Rattle.byte_account.specs.ShelfWords.{room_answer}
-use Rattle.byte_account.proofs.ShelfLists.{weight_under}
-use Rattle.byte_account.proofs.PlacesLaws.{total-touched, total-without, total-placed, HasEachKeyOnce-evicted}
+use Rattle.arc_core.specs.Step.{Plan, answer_only, put, take_away, take_all, extra_of, sticky_size, room_for, put_behind, carried_out, ended, named_keys, started, step, unexpired, without_expired, used, used_at, put_joined, counted, plan_of_store, plan_of_next, plan_of_count, plan_of_delete, plan_of_touch, plan_of}
+use Rattle.byte_account.specs.Accounting.{IsAccounted, IsWithinShare}
+use Rattle.byte_account.specs.Putting as shelf
+use Rattle.byte_account.proofs.PlacesLaws.{total-brought_to_front, total-without}
 use Rattle.byte_account.proofs.AccountingLaws.{IsAccounted-empty}
-use Rattle.byte_account.proofs.FoundLaws.{found-evicted}
-use Rattle.byte_account.proofs.RoomLaws.{IsLeastEviction-room}
-use Rattle.byte_account.proofs.EvictionLaws.{evicted_makes_room}
-use Rattle.cache_engine.proofs.ItemPlaces.{ArePlaced-touched, ArePlaced-without, ArePlaced-evicted, ArePlaced-placed, ArePlaced-empty, stays_item}
+use Rattle.byte_account.proofs.ShareLaws.{IsWithinShare-empty, sticky_total-without}
+use Rattle.byte_account.proofs.PutLaws.{put_totals}
+use Rattle.cache_engine.proofs.ItemPlaces.{sticky_held, ArePlaced-brought_to_front, ArePlaced-without, ArePlaced-evicted, ArePlaced-placed, ArePlaced-empty, stays_item}
 use Rattle.cache_engine.proofs.Texts.{decimal_long}
 
 -- THE PLACES
 
--- The items keep their rules, and their stated sizes are within the limit.
+-- The items keep their rules, and their stated sizes are within the limit and the share.
 record Keeps (places : Places Item) : Type 0 where
   placed : ArePlaced places
   within : total_of size_of places ≤ places.limit
+  share : sticky_total_of size_of places ≤ places.share
 
 Keeps-without : (key : List ℕ) (places : Places Item) → Keeps places → Keeps (without key places)
-Keeps-without key places keeps = record { placed = ArePlaced-without key places keeps.placed; within = omega (arith, total-without size_of key places keeps.placed.once, keeps.within) }
+Keeps-without key places keeps = record { placed = ArePlaced-without key places keeps.placed; within = omega (arith, total-without size_of key places keeps.placed.once, keeps.within); share = omega (arith, sticky_total-without size_of key places, keeps.share) }
 
-Keeps-touched : (key : List ℕ) (places : Places Item) → Keeps places → Keeps (touched key places)
-Keeps-touched key places keeps = record { placed = ArePlaced-touched key places keeps.placed; within = omega (arith, total-touched size_of key places keeps.placed.once, keeps.within) }
+Keeps-brought_to_front : (key : List ℕ) (places : Places Item) → Keeps places → Keeps (brought_to_front key places)
+Keeps-brought_to_front key places keeps = record { placed = ArePlaced-brought_to_front key places keeps.placed; within = omega (arith, total-brought_to_front size_of key places keeps.placed.once, keeps.within); share = keeps.share }
 
-Keeps-empty : (limit : ℕ) → Keeps (empty_places limit)
-Keeps-empty limit = record { placed = ArePlaced-empty limit; within = omega (arith, (IsAccounted-empty size_of limit).sum) }
+Keeps-empty : (limit share : ℕ) → Keeps (empty_places limit share)
+Keeps-empty limit share = record { placed = ArePlaced-empty limit share; within = omega (arith, (IsAccounted-empty size_of limit share).sum); share = omega (arith, (IsWithinShare-empty {X = Item} size_of limit share).sum) }
 
 either : (b : Bool) (p q : Places Item) → Keeps p → Keeps q → Keeps (cond b p q)
 either true p q here there = here
@@ -62,42 +60,32 @@ Keeps-unexpired latest (key ∷ keys) places keeps = Keeps-unexpired latest keys
 
 Keeps-used_at : (latest : ℕ) (key : List ℕ) (o : Option Item) (places : Places Item) → Keeps places → Keeps (used_at latest key o places)
 Keeps-used_at latest key None places keeps = keeps
-Keeps-used_at latest key (Some item) places keeps = either (has_expired latest (expiry_of item)) _ _ keeps (Keeps-touched key places keeps)
+Keeps-used_at latest key (Some item) places keeps = either (has_expired latest (expiry_of item)) _ _ keeps (Keeps-brought_to_front key places keeps)
 
 Keeps-used : (latest : ℕ) (keys : List (List ℕ)) (places : Places Item) → Keeps places → Keeps (used latest keys places)
 Keeps-used latest [] places keeps = keeps
 Keeps-used latest (key ∷ keys) places keeps = Keeps-used latest keys _ (Keeps-used_at latest key (found key places) places keeps)
 
--- what fits is within the limit
-fits_within : (limit total size less : ℕ) (extra : ℤ) → extra ≡ pos size -ℤ pos less → fits limit total extra 0 ≡ true → total + size ≤ limit + less
-fits_within limit total size less (pos more) is kept = let up = leb-true (total + more) (limit + 0) kept in omega (arith, ints, up)
-fits_within limit total size less (negsuc fewer) is kept = let up = leb-true total (limit + 0 + suc fewer) kept in omega (arith, ints, up)
-
-same_limit : (sticky : Bool) (key : List ℕ) (item : Item) (places : Places Item) → (placed sticky key item places).limit ≡ places.limit
-same_limit true key item places = refl
-same_limit false key item places = refl
-
 module _ (state : CacheState) (key : List ℕ) (item : Item) where
-  Keeps-put : (gone : List (List ℕ × Item)) → IsItem item → room size_of state.places key (extra_of state key item) ≡ Some gone → Keeps state.places → Keeps (put_behind (length gone) key item state.places)
+  -- what is evicted for the item, as the shelf puts it
+  room_is : ArePlaced state.places → room_for state key item ≡ shelf.room_for size_of (is_sticky (expiry_of item)) key item state.places
+  room_is placed = ap (λ n. room size_of state.places key (extra_of state key item) (pos (sticky_size key item) -ℤ pos n)) (sticky_held key state.places placed)
+
+  Keeps-put : (gone : List (List ℕ × Item)) → IsItem item → room_for state key item ≡ Some gone → Keeps state.places → Keeps (put_behind (length gone) key item state.places)
   Keeps-put gone ok h keeps =
       let n = length gone in
-      let places = state.places in
       let side = is_sticky (expiry_of item) in
-      let least : IsLeastEviction size_of places key (extra_of state key item) (Fits n) =
-      subst (λ g. IsLeastEviction size_of places key (extra_of state key item) (room_answer g)) h (IsLeastEviction-room size_of places key (extra_of state key item)) in
-      let roomy = fits_within places.limit (total_of size_of (evicted key n places)) (size_of key item) (weight_under size_of key (found key places)) (extra_of state key item) refl (evicted_makes_room size_of key n places (extra_of state key item) least) in
-      let sum = total-placed size_of side key item (evicted key n places) (HasEachKeyOnce-evicted key n places keeps.placed.once) in
-      let held = ap (weight_under size_of key) (found-evicted key n places) in
-      record {
-        placed = ArePlaced-placed key item (evicted key n places) ok (ArePlaced-evicted key n places keeps.placed);
-        within = omega (arith, roomy, sum, held, same_limit side key item (evicted key n places));
-      }
+      let room : Some n ≡ option_map length (shelf.room_for size_of side key item state.places) = ap (option_map length) (sym h ∙ room_is keeps.placed) in
+      let accounted : IsAccounted size_of state.places (total_of size_of state.places) = record { sum = refl; within = keeps.within; once = keeps.placed.once } in
+      let shared : IsWithinShare size_of state.places (sticky_total_of size_of state.places) = record { sum = refl; within = keeps.share } in
+      let sums = put_totals size_of side key item state.places n room accounted shared in
+      record { placed = ArePlaced-placed key item (evicted key n state.places) ok (ArePlaced-evicted key n state.places keeps.placed); within = sums.0; share = sums.1 }
 
 -- THE PLANS
 
 -- what is put is an item
 PutsItem : Plan → Type 0
-PutsItem (tell reply) = Unit {0}
+PutsItem (answer_only reply) = Unit {0}
 PutsItem (put key item counter reply) = IsItem item
 PutsItem (take_away key reply) = Unit {0}
 PutsItem (take_all reply) = Unit {0}
@@ -176,17 +164,17 @@ record KeepsAt (latest : ℕ) (state : CacheState) : Type 0 where
   second : state.latest ≡ latest
   keeps : Keeps state.places
 
-put_keeps : (state : CacheState) (key : List ℕ) (item : Item) (counter : ℕ) (reply : Reply) (keys : List (List ℕ)) (o : Option (List (List ℕ × Item))) → room size_of state.places key (extra_of state key item) ≡ o → IsItem item → Keeps state.places
+put_keeps : (state : CacheState) (key : List ℕ) (item : Item) (counter : ℕ) (reply : Reply) (keys : List (List ℕ)) (o : Option (List (List ℕ × Item))) → room_for state key item ≡ o → IsItem item → Keeps state.places
     → KeepsAt state.latest (ended state keys (option_map {U = CacheState × Reply} (λ gone. (record state { counter = counter; places = put_behind (length gone) key item state.places }, reply)) o)).0
 put_keeps state key item counter reply keys None h ok keeps = record { second = refl; keeps = keeps }
 put_keeps state key item counter reply keys (Some gone) h ok keeps = record { second = refl; keeps = Keeps-used state.latest keys _ (Keeps-put state key item gone ok h keeps) }
 
 plan_keeps : (state : CacheState) (plan : Plan) (keys : List (List ℕ)) → PutsItem plan → Keeps state.places → KeepsAt state.latest (ended state keys (carried_out state plan)).0
 unfolding PutsItem
-plan_keeps state (tell reply) keys ok keeps = record { second = refl; keeps = Keeps-used state.latest keys _ keeps }
-plan_keeps state (put key item counter reply) keys ok keeps = put_keeps state key item counter reply keys (room size_of state.places key (extra_of state key item)) refl ok keeps
+plan_keeps state (answer_only reply) keys ok keeps = record { second = refl; keeps = Keeps-used state.latest keys _ keeps }
+plan_keeps state (put key item counter reply) keys ok keeps = put_keeps state key item counter reply keys (room_for state key item) refl ok keeps
 plan_keeps state (take_away key reply) keys ok keeps = record { second = refl; keeps = Keeps-used state.latest keys _ (Keeps-without key state.places keeps) }
-plan_keeps state (take_all reply) keys ok keeps = record { second = refl; keeps = Keeps-used state.latest keys _ (Keeps-empty state.places.limit) }
+plan_keeps state (take_all reply) keys ok keeps = record { second = refl; keeps = Keeps-used state.latest keys _ (Keeps-empty state.places.limit state.places.share) }
 
 max_below : (a b n : ℕ) → a < n → b < n → max a b < n
 max_below a b n p q = omega arith
@@ -195,12 +183,13 @@ step_of : (old : CacheState) (now : ℕ) (request : PlainRequest) → IsState ol
 step_of old now request rules time small =
     let keys = named_keys request.act in
     let start = started old now keys in
-    let keeps : Keeps start.places = Keeps-unexpired (max old.latest now) keys old.places (record { placed = rules.placed; within = rules.within }) in
+    let keeps : Keeps start.places = Keeps-unexpired (max old.latest now) keys old.places (record { placed = rules.placed; within = rules.within; share = rules.share }) in
     let end = plan_keeps start (plan_of start request.act) keys (plan-is_item start request.act small keeps.placed) keeps in
     record {
       placed = end.keeps.placed;
       second = subst (λ n. n < 2 ^ 32) (sym end.second) (max_below old.latest now (2 ^ 32) rules.second time);
       within = end.keeps.within;
+      share = end.keeps.share;
     }
 
 some_act : (a b : PlainAct) → ◌≡◌ {A = Option PlainAct} (Some a) (Some b) → a ≡ b
@@ -211,22 +200,22 @@ unfolding IsShort
 keys_short None a h = absurd (cc)
 keys_short (Some keys) a h = subst IsShort (some_act (act.get keys false) a h) tt
 
-act_short : (command : Command) (block : List ℕ) (a : PlainAct) → IsBlockFor command block → act_of command block ≡ Some a → IsShort a
+act_short : (asked : Command) (block : List ℕ) (a : PlainAct) → IsBlockFor asked block → act_of asked block ≡ Some a → IsShort a
 unfolding IsShort
-act_short (grammar.store verb key flags exptime len) block a meets h = subst IsShort (some_act (act.store verb key flags exptime block) a h) (omega (arith, meets.0, meets.1))
-act_short (grammar.get keys unique) block a meets h = subst IsShort (some_act (act.get keys unique) a h) tt
-act_short (grammar.get_block len number) block a meets h = keys_short (keys_counted number (words block)) a h
-act_short (grammar.count up key delta initial) block a meets h = subst IsShort (some_act (act.count up key delta initial) a h) tt
-act_short (grammar.delete key) block a meets h = subst IsShort (some_act (act.delete key) a h) tt
-act_short (grammar.touch key exptime) block a meets h = subst IsShort (some_act (act.touch key exptime) a h) tt
-act_short grammar.flush_all block a meets h = subst IsShort (some_act act.flush_all a h) tt
-act_short grammar.version block a meets h = subst IsShort (some_act act.version a h) tt
-act_short grammar.quit block a meets h = absurd (cc)
+act_short (command.Store verb key flags exptime len) block a meets h = subst IsShort (some_act (act.store verb key flags exptime block) a h) (omega (arith, meets.0, meets.1))
+act_short (command.Get keys unique) block a meets h = subst IsShort (some_act (act.get keys unique) a h) tt
+act_short (command.GetBlock len number) block a meets h = keys_short (keys_counted number (words block)) a h
+act_short (command.Count up key delta initial) block a meets h = subst IsShort (some_act (act.count up key delta initial) a h) tt
+act_short (command.Delete key) block a meets h = subst IsShort (some_act (act.delete key) a h) tt
+act_short (command.Touch key exptime) block a meets h = subst IsShort (some_act (act.touch key exptime) a h) tt
+act_short command.FlushAll block a meets h = subst IsShort (some_act act.flush_all a h) tt
+act_short command.Version block a meets h = subst IsShort (some_act act.version a h) tt
+act_short command.Quit block a meets h = absurd (cc)
 
-request_short : (command : Command) (block : List ℕ) (o : Option PlainAct) (make : PlainAct → PlainRequest) (request : PlainRequest) → ((a : PlainAct) → (make a).act ≡ a) → IsBlockFor command block → act_of command block ≡ o → option_map make o ≡ Some request → IsShort request.act
-request_short command block None make request same meets e h = absurd (cc)
-request_short command block (Some a) make request same meets e h =
-    subst IsShort (sym (same a) ∙ ap (λ o. (unwrap_or {T = PlainRequest} o request).act) h) (act_short command block a meets e)
+request_short : (asked : Command) (block : List ℕ) (o : Option PlainAct) (make : PlainAct → PlainRequest) (request : PlainRequest) → ((a : PlainAct) → (make a).act ≡ a) → IsBlockFor asked block → act_of asked block ≡ o → option_map make o ≡ Some request → IsShort request.act
+request_short asked block None make request same meets e h = absurd (cc)
+request_short asked block (Some a) make request same meets e h =
+    subst IsShort (sym (same a) ∙ ap (λ o. (unwrap_or {T = PlainRequest} o request).act) h) (act_short asked block a meets e)
 
 pub step_keeps : (old : CacheState) (now : ℕ) (request : PlainRequest) → IsState old → now < 2 ^ 32 → CanBeSpelled request → IsState (step old now request).0
 step_keeps old now request rules time spelled =

@@ -10,7 +10,7 @@ use Rattle.arc_core.specs.declared.replies.ValueRow.{ValueRow}
 use Rattle.arc_core.specs.declared.items.Expiry.TheVariants as expiry
 use Rattle.arc_core.specs.declared.outside.Need.TheVariants as need
 use Rattle.arc_core.specs.Words.{words, number_below, key_word, exptime_word, keys_up_to}
-use Rattle.arc_core.specs.KeyValueGrammar as grammar
+use Rattle.arc_core.specs.declared.commands.Command.TheVariants as command
 use Rattle.arc_core.specs.KeyValueGrammar.{store_row, get_row, noreply_word}
 use Rattle.arc_core.specs.Grammar.{head_of, line_needs, command_of}
 use Rattle.arc_core.specs.Item.{Item, key_value}
@@ -32,7 +32,7 @@ item = key_value 5 expiry.Never 1 (codes "abc")
 
 -- the state behind the `set`
 abbrev pub held : CacheState
-held = state_at 0 1 (only a item limit)
+held = state_at 0 1 (only a item limit limit)
 
 abbrev pub row : ValueRow
 row = record { key = a; flags = 5; unique = None; value = codes "abc" }
@@ -44,7 +44,7 @@ abbrev pub get_a : PlainRequest
 get_a = record { act = get (a ∷ []) false; answer = answer.Plain }
 
 -- the lines spell the requests, and the first asks for its block
-pub set_is_spelled : head_of (words (codes "set a 5 0 3")) ≡ Some (record { command = grammar.store verb.Set a 5 (pos 0) 3; answer = answer.Plain })
+pub set_is_spelled : head_of (words (codes "set a 5 0 3")) ≡ Some (record { command = command.Store verb.Set a 5 (pos 0) 3; answer = answer.Plain })
 unfolding command_of store_row exptime_word number_below key_word noreply_word
 set_is_spelled = refl
 
@@ -52,15 +52,15 @@ pub set_asks_for_a_block : line_needs (codes "set a 5 0 3") ≡ need.Block 3 104
 unfolding command_of store_row exptime_word number_below key_word noreply_word
 set_asks_for_a_block = refl
 
-pub get_is_spelled : head_of (words (codes "get a")) ≡ Some (record { command = grammar.get (a ∷ []) false; answer = answer.Plain })
+pub get_is_spelled : head_of (words (codes "get a")) ≡ Some (record { command = command.Get (a ∷ []) false; answer = answer.Plain })
 unfolding command_of get_row keys_up_to
 get_is_spelled = refl
 
 -- the item is stored, with the first cas unique
-pub set_is_stored : step (opening_state limit) 0 set_a ≡ (held, reply.Word word.Stored)
+pub set_is_stored : step (opening_state limit limit) 0 set_a ≡ (held, reply.Word word.Stored)
 set_is_stored =
-    ap (λ start. ended start (a ∷ []) (carried_out start (plan_of start set_a.act))) (starts a 0 limit)
-    ∙ put_first a item limit 0 1 (reply.Word word.Stored) (omega arith) refl
+    ap (λ start. ended start (a ∷ []) (carried_out start (plan_of start set_a.act))) (starts a 0 limit limit)
+    ∙ put_first a item limit limit 0 1 (reply.Word word.Stored) (omega arith) refl
 
 -- it is found, and nothing has changed
 pub get_finds_it : step held 0 get_a ≡ (held, reply.Values (row ∷ []))
@@ -68,7 +68,7 @@ get_finds_it = refl
 
 -- 64 bytes for the item, one for its key and three for its value are accounted
 pub set_is_accounted : accounted held ≡ 68
-set_is_accounted = total_first a item limit
+set_is_accounted = total_first a item limit limit
 
 -- what the client gets
 pub texts_of_row : reply_text (reply.Word word.Stored) ++ reply_text (reply.Values (row ∷ []))

@@ -1,18 +1,16 @@
 -- What changes of the held items leave.
-use Rattle.std.specs.Prelude.{◌≡◌, ◌≢◌, ℕ, List, length, Option, Some, None, pos, ◌-ℤ◌, Result, Ok, Err}
-use Rattle.std.specs.Option.{option_map_or}
+use Rattle.std.specs.Prelude.{◌≡◌, ◌≢◌, ℕ, List, [], length, Option, Some, None}
 use Rattle.arc_core.specs.declared.items.Expiry.{Expiry}
-use Rattle.arc_core.specs.declared.faults.NoMemory.{NoMemory}
-use Rattle.arc_core.specs.Item.{Item, size_of, expiry_of, is_sticky, with_expiry}
+use Rattle.arc_core.specs.Item.{Item, expiry_of, is_sticky, with_expiry}
 use Rattle.arc_core.specs.Places.{Places, found, placed}
-use Rattle.arc_core.specs.Room.{room}
-use Rattle.arc_core.specs.Step.{put_behind}
-use Rattle.cache_engine.specs.declared.puts.Put.{Put}
-use Rattle.cache_engine.specs.declared.puts.Put.TheVariants as put
+use Rattle.arc_core.specs.Step.{put_behind, room_for}
+use Rattle.byte_account.specs.declared.put.Put.{Put}
+use Rattle.byte_account.specs.declared.put.Put.TheVariants as put
+use Rattle.cache_engine.specs.Planning.{state_at}
 
--- what is evicted for an item under the key, or none where there is no room
+-- what is evicted for an item under the key, or none where there is no room for it
 abbrev pub evicted_for : List ℕ → Item → Places Item → Option (List (List ℕ × Item))
-evicted_for key item places = room size_of places key (pos (size_of key item) -ℤ pos (option_map_or (size_of key) (found key places) 0))
+evicted_for key item places = room_for (state_at 0 0 places) key item
 
 -- The item stands under the key, behind as few evictions as make room.
 pub record IsPutBehind (key : List ℕ) (item : Item) (old new : Places Item) : Type 0 where
@@ -30,13 +28,17 @@ Puts key item old new put.NoMemory = new ≡ old
 abbrev pub IsUnder : List ℕ → Places Item → Type 0
 IsUnder key places = (item : Item) × (found key places ≡ Some item)
 
--- The item under the key has this expiry.
+-- The item under the key has this expiry, for which there was room.
 pub record HasExpiry (key : List ℕ) (expiry : Expiry) (old new : Places Item) : Type 0 where
   pub item : Item
   pub held : found key old ≡ Some item
+  pub fits : evicted_for key (with_expiry expiry item) old ≡ Some []
   pub places : new ≡ placed (is_sticky expiry) key (with_expiry expiry item) old
 
--- What another expiry leaves: it stands; or the item would have moved, and for want of memory nothing has changed.
-abbrev pub Expires : List ℕ → Expiry → Places Item → Places Item → Result Prim.Unit NoMemory → Type 0
-Expires key expiry old new (Ok _) = HasExpiry key expiry old new
-Expires key expiry old new (Err _) = (new ≡ old) × ((item : Item) → found key old ≡ Some item → is_sticky (expiry_of item) ≢ is_sticky expiry)
+-- What another expiry leaves, by its answer: it stands; there was no room; or the item would have changed sides, and for
+-- want of memory nothing has changed.
+abbrev pub SetsExpiry : List ℕ → Expiry → Places Item → Places Item → Put → Type 0
+SetsExpiry key expiry old new put.Done = HasExpiry key expiry old new
+SetsExpiry key expiry old new put.NoRoom = ((item : Item) → found key old ≡ Some item → evicted_for key (with_expiry expiry item) old ≡ None) × (new ≡ old)
+SetsExpiry key expiry old new put.NoMemory =
+    ((item : Item) → found key old ≡ Some item → (is_sticky (expiry_of item) ≢ is_sticky expiry) × (evicted_for key (with_expiry expiry item) old ≢ None)) × (new ≡ old)

@@ -1,8 +1,8 @@
 pub mod Stored
 pub mod Putting
-pub mod Retiming
-pub mod Changes
+pub mod SettingExpiry
 pub mod Planning
+pub mod Changes
 pub mod Starting
 pub mod Acting
 pub mod Retrieving

@@ -2,22 +2,22 @@
 ghost use Rattle.std.specs.Prelude.{◌≡◌, ◌≤◌, ◌<◌, ◌^◌, max, ℤ, length, IfOk};
 ghost use Rattle.arc_core.specs.PlainRequest as act;
 ghost use Rattle.arc_core.specs.Places.{count_of, found};
-ghost use Rattle.arc_core.specs.CacheState.{ArePlaced, opening_state, accounted, IsState};
+ghost use Rattle.arc_core.specs.CacheState.{ArePlaced, opening_state, accounted, accounted_sticky, IsState};
 ghost use Rattle.arc_core.specs.Step.{Plan, put};
 ghost use Rattle.arc_core.specs.ReplyText.{reply_text};
 ghost use Rattle.kv_items.specs.PlainItem.{plain_item};
 ghost use Rattle.cache_engine.specs.Planning.{Plans, IsShort};
-ghost use Rattle.cache_engine.specs.Starting.{standing_of};
-ghost use Rattle.cache_engine.specs.Acting.{Acts, Finishes, Tells};
+ghost use Rattle.cache_engine.specs.Starting.{key_state_of};
+ghost use Rattle.cache_engine.specs.Acting.{Acts, Finishes, Answers};
 
 use crate::expiring::expiry_at;
 use crate::items::Items;
 use crate::plans::{Planned, plan_count, plan_store};
-use crate::puts::Put;
 use crate::retrieval::{read_and_use, rows_under};
 use crate::settings::Settings;
-use crate::standing::{Standing, expire_and_use, live, put_and_use, standing_of, use_key};
+use crate::key_state::{KeyState, set_expiry_and_use, live, put_and_use, key_state_of, use_key};
 use arc_core::{Act, Executor, KeyRef, KeyWords, NoMemory, Reply, Request, StoreVerb, Word};
+use byte_account::Put;
 use kv_items::KvItem;
 use std::alloc::Global;
 use std::marker::Model;
@@ -52,11 +52,11 @@ impl Model for Cache {
 }
 
 impl Cache {
-    /// An empty cache of the limit that the settings say. `NoMemory` comes for want of memory alone.
+    /// An empty cache of the limit and the share that the settings say. `NoMemory` comes for want of memory alone.
     pub fn new(alloc: Global, settings: Settings) -> Result<Cache, NoMemory>
-        ensures { IfOk result (λ cache. cache ≡ opening_state settings.limit) }
+        ensures { IfOk result (λ cache. cache ≡ opening_state settings.limit settings.share) }
     {
-        let items = Items::new(alloc, settings.limit)?;
+        let items = Items::new(alloc, settings.limit, settings.share)?;
         Ok(Cache {
             alloc,
             items,
@@ -72,7 +72,16 @@ impl Cache {
         // The held items keep their rules, and no key is held twice.
         ensures rules { IsState self.now }
     {
+        self.items.keep_the_rules();
         self.items.total()
+    }
+
+    /// The accounted bytes of the sticky items, which are within their share.
+    pub fn sticky(&self) -> u64
+        ensures sum { result ≡ accounted_sticky self.now }
+        ensures within { result ≤ self.now.places.share }
+    {
+        self.items.sticky_total()
     }
 
     /// How many items are held.
@@ -82,26 +91,26 @@ impl Cache {
         self.items.count()
     }
 
-    // Answers with a word, and leaves the item as it is under a key that stands like this.
-    fn tell(&mut self, now: u32, key: &KeyRef<'_>, standing: Standing, word: Word) -> Reply
-        requires { standing ≡ standing_of (max self.old.latest now) (found key.now self.old.places) }
-        ensures tells { Tells self.old now key.now word result self.new }
+    // Answers with a word, and leaves the item as it is under a key in this state.
+    fn answer(&mut self, now: u32, key: &KeyRef<'_>, key_state: KeyState, word: Word) -> Reply
+        requires { key_state ≡ key_state_of (max self.old.latest now) (found key.now self.old.places) }
+        ensures answers { Answers self.old now key.now word result self.new }
         ensures text { length (reply_text result) < 2 ^ 64 }
     {
         self.latest = self.latest.max(now);
-        use_key(&mut self.items, self.latest, key.bytes(), standing);
+        use_key(&mut self.items, self.latest, key.bytes(), key_state);
         Reply::Word(word)
     }
 
-    // Carries out what was planned for a key that stands like this.
+    // Carries out what was planned for a key in this state.
     fn carry_out(
         &mut self,
         now: u32,
         key: &KeyRef<'_>,
-        standing: Standing,
+        key_state: KeyState,
         planned: Planned,
     ) -> Reply
-        requires standing { standing ≡ standing_of (max self.old.latest now) (found key.now self.old.places) }
+        requires key_state { key_state ≡ key_state_of (max self.old.latest now) (found key.now self.old.places) }
         requires placed { ArePlaced self.old.places }
         requires short { IsShort planned }
         ensures finishes { (plan : Plan) → Plans key.now plan planned → Finishes self.old now key.now plan result self.new }
@@ -109,21 +118,21 @@ impl Cache {
     {
         match planned {
             Planned::NoMemory => Reply::Word(Word::NoMemory),
-            Planned::Tell(word) => self.tell(now, key, standing, word),
-            Planned::Put(item, answer) => self.put(now, key, standing, item, answer),
+            Planned::Answer(word) => self.answer(now, key, key_state, word),
+            Planned::Put(item, answer) => self.put(now, key, key_state, item, answer),
         }
     }
 
-    // Puts an item under a key that stands like this, where there is room.
+    // Puts an item under a key in this state, where there is room.
     fn put(
         &mut self,
         now: u32,
         key: &KeyRef<'_>,
-        standing: Standing,
+        key_state: KeyState,
         item: KvItem,
         answer: Reply,
     ) -> Reply
-        requires standing { standing ≡ standing_of (max self.old.latest now) (found key.now self.old.places) }
+        requires key_state { key_state ≡ key_state_of (max self.old.latest now) (found key.now self.old.places) }
         requires placed { ArePlaced self.old.places }
         requires short { length (reply_text answer) < 2 ^ 64 }
         ensures finishes { Finishes self.old now key.now (put key.now (plain_item item) item.unique answer) result self.new }
@@ -131,7 +140,7 @@ impl Cache {
     {
         let latest = self.latest.max(now);
         let unique = item.unique;
-        match put_and_use(&mut self.items, latest, key, standing, item) {
+        match put_and_use(&mut self.items, latest, key, key_state, item) {
             Put::Done => {
                 self.latest = latest;
                 self.counter = unique;
@@ -161,7 +170,7 @@ impl Cache {
     {
         let latest = self.latest.max(now);
         let held = self.items.look(key.bytes());
-        let standing = standing_of(latest, held);
+        let key_state = key_state_of(latest, held);
         let held = live(latest, held);
         let planned = plan_store(
             self.alloc,
@@ -173,7 +182,7 @@ impl Cache {
             value,
             held,
         );
-        self.carry_out(now, key, standing, planned)
+        self.carry_out(now, key, key_state, planned)
     }
 
     // Counts up or down the number that the value under the key spells.
@@ -190,10 +199,10 @@ impl Cache {
     {
         let latest = self.latest.max(now);
         let held = self.items.look(key.bytes());
-        let standing = standing_of(latest, held);
+        let key_state = key_state_of(latest, held);
         let held = live(latest, held);
         let planned = plan_count(self.alloc, latest, self.counter, up, delta, initial, held);
-        self.carry_out(now, key, standing, planned)
+        self.carry_out(now, key, key_state, planned)
     }
 
     // Drops the item under the key.
@@ -202,9 +211,9 @@ impl Cache {
         ensures text { length (reply_text result) < 2 ^ 64 }
     {
         let latest = self.latest.max(now);
-        let standing = standing_of(latest, self.items.look(key.bytes()));
-        let Standing::Live = standing else {
-            return self.tell(now, key, standing, Word::NotFound);
+        let key_state = key_state_of(latest, self.items.look(key.bytes()));
+        let KeyState::Live = key_state else {
+            return self.answer(now, key, key_state, Word::NotFound);
         };
         self.latest = latest;
         self.items.remove(key.bytes());
@@ -217,17 +226,21 @@ impl Cache {
         ensures text { length (reply_text result) < 2 ^ 64 }
     {
         let latest = self.latest.max(now);
-        let standing = standing_of(latest, self.items.look(key.bytes()));
-        let Standing::Live = standing else {
-            return self.tell(now, key, standing, Word::NotFound);
+        let key_state = key_state_of(latest, self.items.look(key.bytes()));
+        let KeyState::Live = key_state else {
+            return self.answer(now, key, key_state, Word::NotFound);
         };
         let expiry = expiry_at(latest, exptime);
-        match expire_and_use(&mut self.items, latest, key.bytes(), expiry) {
-            Ok(()) => {
+        match set_expiry_and_use(&mut self.items, latest, key, expiry) {
+            Put::Done => {
                 self.latest = latest;
                 Reply::Word(Word::Touched)
             }
-            Err(NoMemory) => Reply::Word(Word::NoMemory),
+            Put::NoRoom => {
+                self.latest = latest;
+                Reply::Word(Word::OutOfMemory)
+            }
+            Put::NoMemory => Reply::Word(Word::NoMemory),
         }
     }
 
@@ -253,7 +266,7 @@ impl Cache {
         ensures acts { Acts self.old now (act.get keys.now unique) result self.new }
         ensures text { length (reply_text result) < 2 ^ 64 }
     {
-        self.items.rules();
+        self.items.keep_the_rules();
         let latest = self.latest.max(now);
         let Ok(found) = rows_under(self.alloc, &self.items, latest, keys, unique) else {
             return Reply::Word(Word::NoMemory);
@@ -288,5 +301,9 @@ impl Executor for Cache {
             Act::FlushAll => self.flush_all(now),
             Act::Version => self.version(now),
         }
+    }
+
+    fn keeps_the_rules(&self) {
+        self.items.keep_the_rules();
     }
 }

@@ -2,16 +2,16 @@
 ghost use Rattle.std.specs.Prelude.{◌≡◌, ◌≤◌, IfOk};
 ghost use Rattle.std.specs.Option.{option_map};
 ghost use Rattle.arc_core.specs.Item.{size_of, with_expiry};
-ghost use Rattle.arc_core.specs.Places.{empty_places, found, count_of, total_of, touched, without};
+ghost use Rattle.arc_core.specs.Places.{empty_places, found, count_of, total_of, sticky_total_of, brought_to_front, without};
 ghost use Rattle.arc_core.specs.CacheState.{ArePlaced};
 ghost use Rattle.cache_engine.specs.Stored.{item_of};
-ghost use Rattle.cache_engine.specs.Changes.{Puts, IsUnder, Expires};
+ghost use Rattle.cache_engine.specs.Changes.{Puts, IsUnder, SetsExpiry};
 
-use crate::puts::{Put, put_item};
-use crate::retiming::set_expiry;
+use crate::puts::put_item;
+use crate::set_expiry::set_expiry;
 use crate::stored::Stored;
 use arc_core::{Expiry, KeyRef, NoMemory};
-use byte_account::Shelf;
+use byte_account::{Put, Shelf};
 use std::alloc::Global;
 use std::marker::Model;
 
@@ -39,11 +39,12 @@ impl Model for Items {
 }
 
 impl Items {
-    /// No items, within this limit in bytes. `NoMemory` comes for want of memory alone.
-    pub fn new(alloc: Global, limit: u64) -> Result<Items, NoMemory>
-        ensures { IfOk result (λ items. items ≡ empty_places limit) }
+    /// No items, within this limit in bytes, of which sticky items may take this share. `NoMemory` comes for want of memory
+    /// alone.
+    pub fn new(alloc: Global, limit: u64, share: u64) -> Result<Items, NoMemory>
+        ensures { IfOk result (λ items. items ≡ empty_places limit share) }
     {
-        let shelf = Shelf::new(alloc, limit)?;
+        let shelf = Shelf::new(alloc, limit, share)?;
         Ok(Items { alloc, shelf })
     }
 
@@ -56,12 +57,21 @@ impl Items {
         self.shelf.total()
     }
 
-    /// The rules that the items keep. (This law is all that the function does.)
-    pub fn rules(&self)
+    /// The stated sizes of the sticky items, in bytes, which are within the share.
+    pub fn sticky_total(&self) -> u64
+        ensures sum { result ≡ sticky_total_of size_of self.now }
+        ensures within { result ≤ self.now.share }
+    {
+        self.shelf.sticky_total()
+    }
+
+    /// Does nothing, and tells contracts the rules that the items keep.
+    pub fn keep_the_rules(&self)
         ensures placed { ArePlaced self.now }
         ensures within { total_of size_of self.now ≤ self.now.limit }
+        ensures share { sticky_total_of size_of self.now ≤ self.now.share }
     {
-        let _ = self.total();
+        let _ = (self.total(), self.sticky_total());
     }
 
     /// How many items there are.
@@ -80,8 +90,8 @@ impl Items {
     }
 
     /// Marks the key as used: where it has a place on the shelf, that moves to the front.
-    pub fn touch(&mut self, key: &[u8])
-        ensures { self.new ≡ touched key.now self.old }
+    pub fn mark_used(&mut self, key: &[u8])
+        ensures { self.new ≡ brought_to_front key.now self.old }
     {
         self.shelf.touch(key);
     }
@@ -95,7 +105,7 @@ impl Items {
 
     /// Takes all items away.
     pub fn clear(&mut self)
-        ensures { self.new ≡ empty_places self.old.limit }
+        ensures { self.new ≡ empty_places self.old.limit self.old.share }
     {
         self.shelf.clear();
     }
@@ -109,11 +119,12 @@ impl Items {
 
     /// Gives the item that is held under the key another expiry, and its place on the side where it belongs then.
     ///
-    /// `NoMemory` comes only where it gets to be sticky or is no longer so, and then nothing has changed.
-    pub fn set_expiry(&mut self, key: &[u8], expiry: Expiry) -> Result<(), NoMemory>
+    /// `NoRoom` comes exactly where the sticky items would pass their share, and `NoMemory` only where the item gets to be
+    /// sticky or is no longer so; then nothing has changed.
+    pub fn set_expiry(&mut self, key: &KeyRef<'_>, expiry: Expiry) -> Put
         requires { IsUnder key.now self.old }
-        ensures { Expires key.now expiry self.old self.new result }
+        ensures { SetsExpiry key.now expiry self.old self.new result }
     {
-        set_expiry(&mut self.shelf, key, expiry)
+        set_expiry(&mut self.shelf, key.bytes(), expiry)
     }
 }

@@ -1,4 +1,13 @@
 //! The machine: executes requests on the held items, within the byte limit.
+//!
+//! - `cache`: the cache, an executor; one function a command
+//! - `plans`: what a command on one key wants done, by the item that is held there
+//! - `key_state`: how a key stands at the start of a step, and what its place gets then and at the end
+//! - `retrieval`: what a retrieval answers, and what it leaves
+//! - `items`: the held items; over them `puts` and `set_expiry`, the two ways in which one changes
+//! - `stored`, `expiring`: what is held under a key, and when it expires
+//! - `settings`: the limit and the share
+//! - `laws`: laws of the machine
 #![tactic(auto)]
 
 mod cache;
@@ -7,10 +16,10 @@ mod items;
 mod laws;
 mod plans;
 mod puts;
-mod retiming;
+mod set_expiry;
 mod retrieval;
 mod settings;
-mod standing;
+mod key_state;
 mod stored;
 
 pub use cache::Cache;

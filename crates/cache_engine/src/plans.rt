@@ -15,7 +15,7 @@ use std::alloc::Global;
 #[derive(Drop)]
 pub enum Planned {
     /// To answer, and leave the item as it is.
-    Tell(Word),
+    Answer(Word),
     /// To put this item under the key, let the cas counter be its unique, and answer.
     Put(KvItem, Reply),
     /// Memory was refused.
@@ -48,16 +48,16 @@ pub fn plan_store(
     let unique = next_unique(counter);
     match (verb, held) {
         (StoreVerb::Set, _) | (StoreVerb::Add, None) | (StoreVerb::Replace, Some(_)) => {}
-        (StoreVerb::Add, Some(_)) => return Planned::Tell(Word::NotStored),
+        (StoreVerb::Add, Some(_)) => return Planned::Answer(Word::NotStored),
         (StoreVerb::Replace | StoreVerb::Append | StoreVerb::Prepend, None) => {
-            return Planned::Tell(Word::NotStored);
+            return Planned::Answer(Word::NotStored);
         }
         (StoreVerb::Append, Some(item)) => return plan_joined(item.joined(b"", value, unique)),
         (StoreVerb::Prepend, Some(item)) => return plan_joined(item.joined(value, b"", unique)),
-        (StoreVerb::Cas(_), None) => return Planned::Tell(Word::NotFound),
+        (StoreVerb::Cas(_), None) => return Planned::Answer(Word::NotFound),
         (StoreVerb::Cas(asked), Some(item)) => {
             if item.unique != asked {
-                return Planned::Tell(Word::Exists);
+                return Planned::Answer(Word::Exists);
             }
         }
     }
@@ -74,7 +74,7 @@ fn plan_joined(joined: Result<KvItem, JoinFault>) -> Planned
 {
     match joined {
         Ok(item) => Planned::Put(item, Reply::Word(Word::Stored)),
-        Err(JoinFault::TooLong(_)) => Planned::Tell(Word::TooLarge),
+        Err(JoinFault::TooLong(_)) => Planned::Answer(Word::TooLarge),
         Err(JoinFault::NoMemory) => Planned::NoMemory,
     }
 }
@@ -96,10 +96,10 @@ pub fn plan_count(
     let (flags, expiry, number) = match (held, initial) {
         (Some(item), _) => match counted(item.value.bytes(), up, delta) {
             Ok(number) => (item.flags, item.expiry, number),
-            Err(_) => return Planned::Tell(Word::NotNumeric),
+            Err(_) => return Planned::Answer(Word::NotNumeric),
         },
         (None, Some((flags, exptime, number))) => (flags, expiry_at(latest, exptime), number),
-        (None, None) => return Planned::Tell(Word::NotFound),
+        (None, None) => return Planned::Answer(Word::NotFound),
     };
     match number_item(alloc, flags, expiry, next_unique(counter), number) {
         Ok(item) => Planned::Put(item, Reply::Number(number)),

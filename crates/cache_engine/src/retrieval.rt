@@ -8,7 +8,7 @@ ghost use Rattle.kv_items.specs.PlainItem.{plain_item};
 ghost use Rattle.cache_engine.specs.Retrieving.{live_rows, some_late, AreLive, ReadsKey};
 
 use crate::items::Items;
-use crate::standing::{drop_expired, live, standing_of};
+use crate::key_state::{drop_expired, live, key_state_of};
 use arc_core::{Key, KeyRef, KeyWords, NoMemory, Seq, ValueRow};
 use kv_items::KvItem;
 use std::alloc::Global;
@@ -103,8 +103,8 @@ fn drop_expired_keys(items: &mut Items, latest: u32, keys: &KeyWords<'_>, late: 
         return;
     }
     for key in keys.iter() {
-        let standing = standing_of(latest, items.look(key.bytes()));
-        drop_expired(items, latest, key.bytes(), standing);
+        let key_state = key_state_of(latest, items.look(key.bytes()));
+        drop_expired(items, latest, key.bytes(), key_state);
     }
 }
 
@@ -114,6 +114,6 @@ fn use_keys(items: &mut Items, latest: u32, keys: &KeyWords<'_>)
     ensures { items.new ≡ used latest keys.now items.old }
 {
     for key in keys.iter() {
-        items.touch(key.bytes());
+        items.mark_used(key.bytes());
     }
 }

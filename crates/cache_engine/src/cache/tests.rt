@@ -6,7 +6,7 @@ use super::Cache;
 use crate::settings::Settings;
 use Asked::{Count, Delete, Fill, FlushAll, Get, Gets, Store, Touch, Version};
 use StoreVerb::{Add, Append, Cas, Prepend, Replace, Set};
-use Told::{Number, Rows, Tells};
+use Expected::{Number, Rows, Says};
 use Word::{Deleted, Exists, NotFound, NotNumeric, NotStored, Ok as Done, Stored, Touched};
 use arc_core::{KeyRef, KeyWords, Reply, StoreVerb, ValueRow, Word};
 use std::alloc::Global;
@@ -34,14 +34,14 @@ type Row = (&'static [u8], u32, Option<u64>, &'static [u8]);
 
 // What is answered.
 #[derive(Clone, Copy, Debug)]
-enum Told {
-    Tells(Word),
+enum Expected {
+    Says(Word),
     Number(u64),
     Rows(&'static [Row]),
 }
 
 // A second, what is asked then and what is answered.
-type Script = &'static [(u32, Asked, Told)];
+type Script = &'static [(u32, Asked, Expected)];
 
 fn store(
     cache: &mut Cache,
@@ -80,11 +80,11 @@ fn execute(cache: &mut Cache, filler: &[u8], now: u32, asked: Asked) -> Option<R
     }
 }
 
-fn are_rows(rows: &[ValueRow], told: &[Row]) -> bool {
-    if rows.len() != told.len() {
+fn are_rows(rows: &[ValueRow], expected: &[Row]) -> bool {
+    if rows.len() != expected.len() {
         return false;
     }
-    for (row, (key, flags, unique, value)) in rows.iter().zip(told) {
+    for (row, (key, flags, unique, value)) in rows.iter().zip(expected) {
         if row.key.bytes() != *key || row.value.bytes() != *value {
             return false;
         }
@@ -95,11 +95,11 @@ fn are_rows(rows: &[ValueRow], told: &[Row]) -> bool {
     true
 }
 
-fn is_told(reply: Option<Reply>, told: Told) -> bool {
-    match (reply, told) {
-        (Some(Reply::Word(word)), Tells(told)) => word == told,
-        (Some(Reply::Number(number)), Number(told)) => number == told,
-        (Some(Reply::Values(rows)), Rows(told)) => are_rows(rows.as_slice(), told),
+fn is_expected(reply: Option<Reply>, expected: Expected) -> bool {
+    match (reply, expected) {
+        (Some(Reply::Word(word)), Says(expected)) => word == expected,
+        (Some(Reply::Number(number)), Number(expected)) => number == expected,
+        (Some(Reply::Values(rows)), Rows(expected)) => are_rows(rows.as_slice(), expected),
         _ => false,
     }
 }
@@ -111,9 +111,9 @@ fn opened(alloc: Global, mib: u32) -> Result<Cache, Fail> {
 
 // Executes a script on this cache.
 fn run(rt: &impl Abort, cache: &mut Cache, filler: &[u8], script: Script) {
-    for (place, (now, asked, told)) in script.iter().enumerate() {
+    for (place, (now, asked, expected)) in script.iter().enumerate() {
         let reply = execute(cache, filler, *now, *asked);
-        assert!(rt; is_told(reply, *told), "request {place}");
+        assert!(rt; is_expected(reply, *expected), "request {place}");
     }
 }
 
@@ -131,50 +131,50 @@ enum Before {
 const GONE: Option<(u32, u64, &[u8])> = None;
 
 // How the key stands, a request, its reply, and what is held under the key then: flags, unique, value.
-type Case = (Before, Asked, Told, Option<(u32, u64, &'static [u8])>);
+type Case = (Before, Asked, Expected, Option<(u32, u64, &'static [u8])>);
 
 const ABSENT: [Case; 15] = [
     (
         Before::Absent,
         Store(Set, b"a", 3, 0, b"xy"),
-        Tells(Stored),
+        Says(Stored),
         Some((3, 1, b"xy")),
     ),
     (
         Before::Absent,
         Store(Add, b"a", 3, 0, b"xy"),
-        Tells(Stored),
+        Says(Stored),
         Some((3, 1, b"xy")),
     ),
     (
         Before::Absent,
         Store(Replace, b"a", 3, 0, b"xy"),
-        Tells(NotStored),
+        Says(NotStored),
         GONE,
     ),
     (
         Before::Absent,
         Store(Append, b"a", 3, 0, b"xy"),
-        Tells(NotStored),
+        Says(NotStored),
         GONE,
     ),
     (
         Before::Absent,
         Store(Prepend, b"a", 3, 0, b"xy"),
-        Tells(NotStored),
+        Says(NotStored),
         GONE,
     ),
     (
         Before::Absent,
         Store(Cas(1), b"a", 3, 0, b"xy"),
-        Tells(NotFound),
+        Says(NotFound),
         GONE,
     ),
     (Before::Absent, Get(b"a"), Rows(&[]), GONE),
     (
         Before::Absent,
         Count(true, b"a", 2, None),
-        Tells(NotFound),
+        Says(NotFound),
         GONE,
     ),
     (
@@ -186,7 +186,7 @@ const ABSENT: [Case; 15] = [
     (
         Before::Absent,
         Count(false, b"a", 2, None),
-        Tells(NotFound),
+        Says(NotFound),
         GONE,
     ),
     (
@@ -195,53 +195,53 @@ const ABSENT: [Case; 15] = [
         Number(8),
         Some((3, 1, b"8")),
     ),
-    (Before::Absent, Delete(b"a"), Tells(NotFound), GONE),
-    (Before::Absent, Touch(b"a", 0), Tells(NotFound), GONE),
-    (Before::Absent, FlushAll, Tells(Done), GONE),
-    (Before::Absent, Version, Tells(Word::Version), GONE),
+    (Before::Absent, Delete(b"a"), Says(NotFound), GONE),
+    (Before::Absent, Touch(b"a", 0), Says(NotFound), GONE),
+    (Before::Absent, FlushAll, Says(Done), GONE),
+    (Before::Absent, Version, Says(Word::Version), GONE),
 ];
 
 const LIVE: [Case; 19] = [
     (
         Before::Live,
         Store(Set, b"a", 3, 0, b"xy"),
-        Tells(Stored),
+        Says(Stored),
         Some((3, 2, b"xy")),
     ),
     (
         Before::Live,
         Store(Add, b"a", 3, 0, b"xy"),
-        Tells(NotStored),
+        Says(NotStored),
         Some((7, 1, b"5")),
     ),
     (
         Before::Live,
         Store(Replace, b"a", 3, 0, b"xy"),
-        Tells(Stored),
+        Says(Stored),
         Some((3, 2, b"xy")),
     ),
     (
         Before::Live,
         Store(Append, b"a", 3, 0, b"xy"),
-        Tells(Stored),
+        Says(Stored),
         Some((7, 2, b"5xy")),
     ),
     (
         Before::Live,
         Store(Prepend, b"a", 3, 0, b"xy"),
-        Tells(Stored),
+        Says(Stored),
         Some((7, 2, b"xy5")),
     ),
     (
         Before::Live,
         Store(Cas(1), b"a", 3, 0, b"xy"),
-        Tells(Stored),
+        Says(Stored),
         Some((3, 2, b"xy")),
     ),
     (
         Before::Live,
         Store(Cas(2), b"a", 3, 0, b"xy"),
-        Tells(Exists),
+        Says(Exists),
         Some((7, 1, b"5")),
     ),
     (
@@ -286,19 +286,19 @@ const LIVE: [Case; 19] = [
         Number(0),
         Some((7, 2, b"0")),
     ),
-    (Before::Live, Delete(b"a"), Tells(Deleted), GONE),
+    (Before::Live, Delete(b"a"), Says(Deleted), GONE),
     (
         Before::Live,
         Touch(b"a", 0),
-        Tells(Touched),
+        Says(Touched),
         Some((7, 1, b"5")),
     ),
-    (Before::Live, Touch(b"a", -2), Tells(Touched), GONE),
-    (Before::Live, FlushAll, Tells(Done), GONE),
+    (Before::Live, Touch(b"a", -2), Says(Touched), GONE),
+    (Before::Live, FlushAll, Says(Done), GONE),
     (
         Before::Live,
         Version,
-        Tells(Word::Version),
+        Says(Word::Version),
         Some((7, 1, b"5")),
     ),
 ];
@@ -307,44 +307,44 @@ const EXPIRED: [Case; 15] = [
     (
         Before::Expired,
         Store(Set, b"a", 3, 0, b"xy"),
-        Tells(Stored),
+        Says(Stored),
         Some((3, 2, b"xy")),
     ),
     (
         Before::Expired,
         Store(Add, b"a", 3, 0, b"xy"),
-        Tells(Stored),
+        Says(Stored),
         Some((3, 2, b"xy")),
     ),
     (
         Before::Expired,
         Store(Replace, b"a", 3, 0, b"xy"),
-        Tells(NotStored),
+        Says(NotStored),
         GONE,
     ),
     (
         Before::Expired,
         Store(Append, b"a", 3, 0, b"xy"),
-        Tells(NotStored),
+        Says(NotStored),
         GONE,
     ),
     (
         Before::Expired,
         Store(Prepend, b"a", 3, 0, b"xy"),
-        Tells(NotStored),
+        Says(NotStored),
         GONE,
     ),
     (
         Before::Expired,
         Store(Cas(1), b"a", 3, 0, b"xy"),
-        Tells(NotFound),
+        Says(NotFound),
         GONE,
     ),
     (Before::Expired, Get(b"a"), Rows(&[]), GONE),
     (
         Before::Expired,
         Count(true, b"a", 2, None),
-        Tells(NotFound),
+        Says(NotFound),
         GONE,
     ),
     (
@@ -356,7 +356,7 @@ const EXPIRED: [Case; 15] = [
     (
         Before::Expired,
         Count(false, b"a", 2, None),
-        Tells(NotFound),
+        Says(NotFound),
         GONE,
     ),
     (
@@ -365,10 +365,10 @@ const EXPIRED: [Case; 15] = [
         Number(8),
         Some((3, 2, b"8")),
     ),
-    (Before::Expired, Delete(b"a"), Tells(NotFound), GONE),
-    (Before::Expired, Touch(b"a", 0), Tells(NotFound), GONE),
-    (Before::Expired, FlushAll, Tells(Done), GONE),
-    (Before::Expired, Version, Tells(Word::Version), GONE),
+    (Before::Expired, Delete(b"a"), Says(NotFound), GONE),
+    (Before::Expired, Touch(b"a", 0), Says(NotFound), GONE),
+    (Before::Expired, FlushAll, Says(Done), GONE),
+    (Before::Expired, Version, Says(Word::Version), GONE),
 ];
 
 // Whether exactly this is held under the key a.
@@ -397,41 +397,41 @@ fn work(
     alloc: Global,
     before: Before,
     asked: Asked,
-    told: Told,
+    expected: Expected,
     held: Option<(u32, u64, &[u8])>,
 ) -> Result<(), Fail> {
     let mut cache = opened(alloc, 1)?;
     if before != Before::Absent {
         let first = execute(&mut cache, b"", 1_000, Store(Set, b"a", 7, 10, b"5"));
-        assert!(rt; is_told(first, Tells(Stored)));
+        assert!(rt; is_expected(first, Says(Stored)));
     }
     let now = if before == Before::Live { 1_009 } else { 1_010 };
     let reply = execute(&mut cache, b"", now, asked);
-    assert!(rt; is_told(reply, told), "{asked:?}");
+    assert!(rt; is_expected(reply, expected), "{asked:?}");
     assert!(rt; holds(&mut cache, now, held), "{asked:?}");
     Ok(())
 }
 
 #[test]
 fn answers_where_no_item_is_held(rt: HostRuntime) -> Result<(), Fail> {
-    for (before, asked, told, held) in ABSENT {
-        work(&rt, rt.alloc(), before, asked, told, held)?;
+    for (before, asked, expected, held) in ABSENT {
+        work(&rt, rt.alloc(), before, asked, expected, held)?;
     }
     Ok(())
 }
 
 #[test]
 fn answers_where_an_item_is_held(rt: HostRuntime) -> Result<(), Fail> {
-    for (before, asked, told, held) in LIVE {
-        work(&rt, rt.alloc(), before, asked, told, held)?;
+    for (before, asked, expected, held) in LIVE {
+        work(&rt, rt.alloc(), before, asked, expected, held)?;
     }
     Ok(())
 }
 
 #[test]
 fn answers_where_the_item_has_expired(rt: HostRuntime) -> Result<(), Fail> {
-    for (before, asked, told, held) in EXPIRED {
-        work(&rt, rt.alloc(), before, asked, told, held)?;
+    for (before, asked, expected, held) in EXPIRED {
+        work(&rt, rt.alloc(), before, asked, expected, held)?;
     }
     Ok(())
 }
@@ -440,50 +440,50 @@ fn answers_where_the_item_has_expired(rt: HostRuntime) -> Result<(), Fail> {
 const SCRIPTS: [Script; 11] = [
     // The cas counter rises with each store, and with nothing else.
     &[
-        (0, Store(Set, b"a", 0, 0, b"5"), Tells(Stored)),
+        (0, Store(Set, b"a", 0, 0, b"5"), Says(Stored)),
         (0, Gets(b"a"), Rows(&[(b"a", 0, Some(1), b"5")])),
-        (0, Store(Set, b"a", 0, 0, b"5"), Tells(Stored)),
-        (0, Store(Add, b"a", 0, 0, b"6"), Tells(NotStored)),
-        (0, Store(Replace, b"b", 0, 0, b"6"), Tells(NotStored)),
-        (0, Store(Cas(9), b"a", 0, 0, b"6"), Tells(Exists)),
-        (0, Touch(b"a", 0), Tells(Touched)),
-        (0, Count(true, b"b", 1, None), Tells(NotFound)),
+        (0, Store(Set, b"a", 0, 0, b"5"), Says(Stored)),
+        (0, Store(Add, b"a", 0, 0, b"6"), Says(NotStored)),
+        (0, Store(Replace, b"b", 0, 0, b"6"), Says(NotStored)),
+        (0, Store(Cas(9), b"a", 0, 0, b"6"), Says(Exists)),
+        (0, Touch(b"a", 0), Says(Touched)),
+        (0, Count(true, b"b", 1, None), Says(NotFound)),
         (0, Gets(b"a"), Rows(&[(b"a", 0, Some(2), b"5")])),
-        (0, Store(Cas(2), b"a", 0, 0, b"7"), Tells(Stored)),
+        (0, Store(Cas(2), b"a", 0, 0, b"7"), Says(Stored)),
         (0, Gets(b"a"), Rows(&[(b"a", 0, Some(3), b"7")])),
         (0, Count(true, b"a", 1, None), Number(8)),
         (0, Count(false, b"a", 1, None), Number(7)),
         (0, Gets(b"a"), Rows(&[(b"a", 0, Some(5), b"7")])),
-        (0, Store(Append, b"a", 0, 0, b"x"), Tells(Stored)),
-        (0, Count(true, b"a", 1, None), Tells(NotNumeric)),
-        (0, Store(Prepend, b"a", 0, 0, b"x"), Tells(Stored)),
+        (0, Store(Append, b"a", 0, 0, b"x"), Says(Stored)),
+        (0, Count(true, b"a", 1, None), Says(NotNumeric)),
+        (0, Store(Prepend, b"a", 0, 0, b"x"), Says(Stored)),
         (0, Gets(b"a"), Rows(&[(b"a", 0, Some(7), b"x7x")])),
         (0, Count(true, b"b", 1, Some((0, 0, 9))), Number(9)),
-        (0, Delete(b"a"), Tells(Deleted)),
-        (0, FlushAll, Tells(Done)),
-        (0, Store(Add, b"a", 0, 0, b""), Tells(Stored)),
+        (0, Delete(b"a"), Says(Deleted)),
+        (0, FlushAll, Says(Done)),
+        (0, Store(Add, b"a", 0, 0, b""), Says(Stored)),
         (0, Gets(b"a b"), Rows(&[(b"a", 0, Some(9), b"")])),
     ],
     // An item expires at its second, and not before.
     &[
-        (1_000, Store(Set, b"a", 0, 10, b"x"), Tells(Stored)),
+        (1_000, Store(Set, b"a", 0, 10, b"x"), Says(Stored)),
         (1_009, Get(b"a"), Rows(&[(b"a", 0, None, b"x")])),
         (1_010, Get(b"a"), Rows(&[])),
     ],
     // Appending and counting keep the second, and a touch moves it.
     &[
-        (1_000, Store(Set, b"a", 7, 10, b"5"), Tells(Stored)),
-        (1_008, Store(Append, b"a", 0, 0, b"6"), Tells(Stored)),
+        (1_000, Store(Set, b"a", 7, 10, b"5"), Says(Stored)),
+        (1_008, Store(Append, b"a", 0, 0, b"6"), Says(Stored)),
         (1_008, Count(true, b"a", 1, None), Number(57)),
         (1_009, Gets(b"a"), Rows(&[(b"a", 7, Some(3), b"57")])),
-        (1_009, Touch(b"a", 10), Tells(Touched)),
+        (1_009, Touch(b"a", 10), Says(Touched)),
         (1_018, Gets(b"a"), Rows(&[(b"a", 7, Some(3), b"57")])),
         (1_019, Get(b"a"), Rows(&[])),
     ],
     // 30 days count from now; a second more is itself the second, which may have been.
     &[
-        (1_000, Store(Set, b"a", 0, 2_592_000, b"x"), Tells(Stored)),
-        (1_000, Store(Set, b"b", 0, 2_592_001, b"y"), Tells(Stored)),
+        (1_000, Store(Set, b"a", 0, 2_592_000, b"x"), Says(Stored)),
+        (1_000, Store(Set, b"b", 0, 2_592_001, b"y"), Says(Stored)),
         (
             2_592_000,
             Get(b"a b"),
@@ -495,16 +495,16 @@ const SCRIPTS: [Script; 11] = [
         (
             2_593_000,
             Store(Set, b"b", 0, 2_592_001, b"y"),
-            Tells(Stored),
+            Says(Stored),
         ),
         (2_593_000, Get(b"b"), Rows(&[])),
     ],
     // Exptimes below 0: -1 is never, and all others at once. 0 is never as well.
     &[
-        (0, Store(Set, b"a", 0, -1, b"x"), Tells(Stored)),
-        (0, Store(Set, b"b", 0, -2, b"y"), Tells(Stored)),
-        (0, Store(Set, b"c", 0, -2_147_483_648, b"z"), Tells(Stored)),
-        (0, Store(Set, b"d", 0, 0, b"w"), Tells(Stored)),
+        (0, Store(Set, b"a", 0, -1, b"x"), Says(Stored)),
+        (0, Store(Set, b"b", 0, -2, b"y"), Says(Stored)),
+        (0, Store(Set, b"c", 0, -2_147_483_648, b"z"), Says(Stored)),
+        (0, Store(Set, b"d", 0, 0, b"w"), Says(Stored)),
         (
             0,
             Get(b"a b c d"),
@@ -518,31 +518,31 @@ const SCRIPTS: [Script; 11] = [
         (
             4_294_967_295,
             Store(Set, b"d", 0, 4_294_967_295, b"w"),
-            Tells(Stored),
+            Says(Stored),
         ),
         (4_294_967_295, Get(b"d"), Rows(&[])),
     ],
     // The latest second never falls.
     &[
-        (1_000, Store(Set, b"a", 0, 10, b"x"), Tells(Stored)),
-        (1_010, Version, Tells(Word::Version)),
+        (1_000, Store(Set, b"a", 0, 10, b"x"), Says(Stored)),
+        (1_010, Version, Says(Word::Version)),
         (1_009, Get(b"a"), Rows(&[])),
-        (5, Store(Set, b"a", 0, 10, b"x"), Tells(Stored)),
+        (5, Store(Set, b"a", 0, 10, b"x"), Says(Stored)),
         (1_019, Get(b"a"), Rows(&[(b"a", 0, None, b"x")])),
-        (0, Touch(b"b", 0), Tells(NotFound)),
+        (0, Touch(b"b", 0), Says(NotFound)),
         (1_020, Get(b"a"), Rows(&[])),
     ],
     // A refused command raises it too.
     &[
-        (1_000, Store(Set, b"a", 0, 10, b"x"), Tells(Stored)),
-        (1_010, Store(Replace, b"b", 0, 0, b"y"), Tells(NotStored)),
-        (0, Store(Add, b"a", 0, 0, b"y"), Tells(Stored)),
+        (1_000, Store(Set, b"a", 0, 10, b"x"), Says(Stored)),
+        (1_010, Store(Replace, b"b", 0, 0, b"y"), Says(NotStored)),
+        (0, Store(Add, b"a", 0, 0, b"y"), Says(Stored)),
         (0, Gets(b"a"), Rows(&[(b"a", 0, Some(2), b"y")])),
     ],
     // A retrieval answers in the request's order, and a key as often as it is named.
     &[
-        (0, Store(Set, b"a", 1, 0, b"x"), Tells(Stored)),
-        (0, Store(Set, b"b", 2, -1, b"y"), Tells(Stored)),
+        (0, Store(Set, b"a", 1, 0, b"x"), Says(Stored)),
+        (0, Store(Set, b"b", 2, -1, b"y"), Says(Stored)),
         (
             0,
             Gets(b"b c a b"),
@@ -555,24 +555,24 @@ const SCRIPTS: [Script; 11] = [
     ],
     // An item changes its side by another exptime, and keeps all else.
     &[
-        (0, Store(Set, b"a", 1, 0, b"x"), Tells(Stored)),
-        (0, Touch(b"a", -1), Tells(Touched)),
+        (0, Store(Set, b"a", 1, 0, b"x"), Says(Stored)),
+        (0, Touch(b"a", -1), Says(Touched)),
         (0, Gets(b"a"), Rows(&[(b"a", 1, Some(1), b"x")])),
-        (0, Store(Append, b"a", 0, 0, b"y"), Tells(Stored)),
-        (0, Touch(b"a", 5), Tells(Touched)),
+        (0, Store(Append, b"a", 0, 0, b"y"), Says(Stored)),
+        (0, Touch(b"a", 5), Says(Touched)),
         (4, Gets(b"a"), Rows(&[(b"a", 1, Some(2), b"xy")])),
-        (4, Store(Set, b"a", 1, -1, b"z"), Tells(Stored)),
+        (4, Store(Set, b"a", 1, -1, b"z"), Says(Stored)),
         (9, Gets(b"a"), Rows(&[(b"a", 1, Some(3), b"z")])),
-        (9, Store(Set, b"a", 1, 1, b"z"), Tells(Stored)),
+        (9, Store(Set, b"a", 1, 1, b"z"), Says(Stored)),
         (10, Gets(b"a"), Rows(&[])),
     ],
     // A flush takes all items, sticky ones too.
     &[
-        (0, Store(Set, b"a", 0, -1, b"x"), Tells(Stored)),
-        (0, Store(Set, b"b", 0, 0, b"y"), Tells(Stored)),
-        (0, FlushAll, Tells(Done)),
+        (0, Store(Set, b"a", 0, -1, b"x"), Says(Stored)),
+        (0, Store(Set, b"b", 0, 0, b"y"), Says(Stored)),
+        (0, FlushAll, Says(Done)),
         (0, Get(b"a b"), Rows(&[])),
-        (0, Delete(b"a"), Tells(NotFound)),
+        (0, Delete(b"a"), Says(NotFound)),
     ],
     // Counts at their ends.
     &[

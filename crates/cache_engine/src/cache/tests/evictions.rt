@@ -1,8 +1,8 @@
 //! Tables of evictions, worked by hand: which of the keys are left.
 
 use super::Asked::{Count, Delete, Fill, FlushAll, Get, Gets, Store, Touch, Version};
-use super::Told::{Rows, Tells};
-use super::{Asked, Script, Told, execute, is_told, opened, run};
+use super::Expected::{Rows, Says};
+use super::{Asked, Script, Expected, execute, is_expected, opened, run};
 use crate::cache::Cache;
 use StoreVerb::{Add, Append, Cas, Prepend, Set};
 use Word::{
@@ -34,13 +34,13 @@ type Eviction = (Firsts, Script, u64, &'static [u8]);
 const PLAIN: Firsts = (0, 0, 0, 0);
 
 // One more item of a quarter.
-const E: (u32, Asked, Told) = (1_000, Fill(Set, b"e", 0, QUARTER), Tells(Stored));
+const E: (u32, Asked, Expected) = (1_000, Fill(Set, b"e", 0, QUARTER), Says(Stored));
 
-const F: (u32, Asked, Told) = (1_000, Fill(Set, b"f", 0, QUARTER), Tells(Stored));
+const F: (u32, Asked, Expected) = (1_000, Fill(Set, b"f", 0, QUARTER), Says(Stored));
 
-const G: (u32, Asked, Told) = (1_000, Fill(Set, b"g", 0, QUARTER), Tells(Stored));
+const G: (u32, Asked, Expected) = (1_000, Fill(Set, b"g", 0, QUARTER), Says(Stored));
 
-const H: (u32, Asked, Told) = (1_000, Fill(Set, b"h", 0, QUARTER), Tells(Stored));
+const H: (u32, Asked, Expected) = (1_000, Fill(Set, b"h", 0, QUARTER), Says(Stored));
 
 // What is used comes to the front, by whatever request names it.
 const RECENCY: [Eviction; 13] = [
@@ -50,79 +50,79 @@ const RECENCY: [Eviction; 13] = [
     (PLAIN, &[(1_000, Get(b"zz"), Rows(&[])), E], 4, b"bcde"),
     (
         PLAIN,
-        &[(1_000, Fill(Add, b"a", 0, 1), Tells(NotStored)), E],
+        &[(1_000, Fill(Add, b"a", 0, 1), Says(NotStored)), E],
         4,
         b"acde",
     ),
     (
         PLAIN,
-        &[(1_000, Fill(Cas(9), b"a", 0, 1), Tells(Exists)), E],
+        &[(1_000, Fill(Cas(9), b"a", 0, 1), Says(Exists)), E],
         4,
         b"acde",
     ),
     (
         PLAIN,
-        &[(1_000, Count(true, b"a", 1, None), Tells(NotNumeric)), E],
+        &[(1_000, Count(true, b"a", 1, None), Says(NotNumeric)), E],
         4,
         b"acde",
     ),
     (
         PLAIN,
-        &[(1_000, Touch(b"a", 0), Tells(Touched)), E, F],
+        &[(1_000, Touch(b"a", 0), Says(Touched)), E, F],
         4,
         b"adef",
     ),
     (
         PLAIN,
-        &[(1_000, Fill(Set, b"a", 0, QUARTER), Tells(Stored)), E, F],
+        &[(1_000, Fill(Set, b"a", 0, QUARTER), Says(Stored)), E, F],
         4,
         b"adef",
     ),
     (
         PLAIN,
-        &[(1_000, Fill(Append, b"a", 0, 0), Tells(Stored)), E, F],
+        &[(1_000, Fill(Append, b"a", 0, 0), Says(Stored)), E, F],
         4,
         b"adef",
     ),
     (
         PLAIN,
-        &[(1_000, Delete(b"d"), Tells(Deleted)), E],
+        &[(1_000, Delete(b"d"), Says(Deleted)), E],
         4,
         b"abce",
     ),
     (
         PLAIN,
-        &[(1_000, Version, Tells(Word::Version)), E],
+        &[(1_000, Version, Says(Word::Version)), E],
         4,
         b"bcde",
     ),
-    (PLAIN, &[(1_000, FlushAll, Tells(Done)), E], 1, b"e"),
+    (PLAIN, &[(1_000, FlushAll, Says(Done)), E], 1, b"e"),
 ];
 
 // As few as make room, the oldest first, and the key itself makes none.
 const LEAST: [Eviction; 12] = [
     (
         PLAIN,
-        &[(1_000, Fill(Set, b"e", 0, 0), Tells(Stored))],
+        &[(1_000, Fill(Set, b"e", 0, 0), Says(Stored))],
         4,
         b"bcde",
     ),
     (
         PLAIN,
-        &[(1_000, Fill(Set, b"e", 0, QUARTER + 1), Tells(Stored))],
+        &[(1_000, Fill(Set, b"e", 0, QUARTER + 1), Says(Stored))],
         3,
         b"cde",
     ),
     (
         PLAIN,
-        &[(1_000, Fill(Set, b"e", 0, WHOLE), Tells(Stored))],
+        &[(1_000, Fill(Set, b"e", 0, WHOLE), Says(Stored))],
         1,
         b"e",
     ),
     (
         PLAIN,
         &[
-            (1_000, Fill(Set, b"e", 0, WHOLE + 1), Tells(OutOfMemory)),
+            (1_000, Fill(Set, b"e", 0, WHOLE + 1), Says(OutOfMemory)),
             E,
         ],
         4,
@@ -131,19 +131,19 @@ const LEAST: [Eviction; 12] = [
     // One byte more where an item stands evicts one other.
     (
         PLAIN,
-        &[(1_000, Fill(Set, b"b", 0, QUARTER + 1), Tells(Stored))],
+        &[(1_000, Fill(Set, b"b", 0, QUARTER + 1), Says(Stored))],
         3,
         b"bcd",
     ),
     (
         PLAIN,
-        &[(1_000, Fill(Append, b"a", 0, 1), Tells(Stored))],
+        &[(1_000, Fill(Append, b"a", 0, 1), Says(Stored))],
         3,
         b"acd",
     ),
     (
         PLAIN,
-        &[(1_000, Fill(Set, b"a", 0, WHOLE), Tells(Stored))],
+        &[(1_000, Fill(Set, b"a", 0, WHOLE), Says(Stored))],
         1,
         b"a",
     ),
@@ -151,8 +151,8 @@ const LEAST: [Eviction; 12] = [
     (
         PLAIN,
         &[
-            (1_000, Fill(Set, b"a", 0, QUARTER - 65), Tells(Stored)),
-            (1_000, Fill(Set, b"e", 0, 0), Tells(Stored)),
+            (1_000, Fill(Set, b"a", 0, QUARTER - 65), Says(Stored)),
+            (1_000, Fill(Set, b"e", 0, 0), Says(Stored)),
         ],
         5,
         b"abcde",
@@ -160,29 +160,29 @@ const LEAST: [Eviction; 12] = [
     (
         PLAIN,
         &[
-            (1_000, Fill(Set, b"a", 0, QUARTER - 65), Tells(Stored)),
-            (1_000, Fill(Set, b"e", 0, 1), Tells(Stored)),
+            (1_000, Fill(Set, b"a", 0, QUARTER - 65), Says(Stored)),
+            (1_000, Fill(Set, b"e", 0, 1), Says(Stored)),
         ],
         4,
         b"acde",
     ),
     (
         PLAIN,
-        &[(1_000, Delete(b"b"), Tells(Deleted)), E],
+        &[(1_000, Delete(b"b"), Says(Deleted)), E],
         4,
         b"acde",
     ),
     // `out of memory` is no use of the key.
     (
         PLAIN,
-        &[(1_000, Fill(Set, b"a", 0, WHOLE + 1), Tells(OutOfMemory))],
+        &[(1_000, Fill(Set, b"a", 0, WHOLE + 1), Says(OutOfMemory))],
         4,
         b"abcd",
     ),
     (
         PLAIN,
         &[
-            (1_000, Fill(Set, b"a", 0, WHOLE + 1), Tells(OutOfMemory)),
+            (1_000, Fill(Set, b"a", 0, WHOLE + 1), Says(OutOfMemory)),
             E,
         ],
         4,
@@ -196,14 +196,14 @@ const STICKY: [Eviction; 9] = [
     ((0, -1, 0, -1), &[E, F, G, H], 4, b"bdgh"),
     (
         PLAIN,
-        &[(1_000, Touch(b"a", -1), Tells(Touched)), E, F, G, H],
+        &[(1_000, Touch(b"a", -1), Says(Touched)), E, F, G, H],
         4,
         b"afgh",
     ),
     (
         PLAIN,
         &[
-            (1_000, Fill(Set, b"a", -1, QUARTER), Tells(Stored)),
+            (1_000, Fill(Set, b"a", -1, QUARTER), Says(Stored)),
             E,
             F,
             G,
@@ -215,32 +215,32 @@ const STICKY: [Eviction; 9] = [
     // It comes back to the front.
     (
         (-1, 0, 0, 0),
-        &[(1_000, Touch(b"a", 0), Tells(Touched)), E, F, G],
+        &[(1_000, Touch(b"a", 0), Says(Touched)), E, F, G],
         4,
         b"aefg",
     ),
     (
         (-1, 0, 0, 0),
-        &[(1_000, Touch(b"a", 0), Tells(Touched)), E, F, G, H],
+        &[(1_000, Touch(b"a", 0), Says(Touched)), E, F, G, H],
         4,
         b"efgh",
     ),
     // Three quarters are left for all others: 786,367 bytes beside the 65.
     (
         (-1, 0, 0, 0),
-        &[(1_000, Fill(Set, b"b", 0, 786_367), Tells(Stored))],
+        &[(1_000, Fill(Set, b"b", 0, 786_367), Says(Stored))],
         2,
         b"ab",
     ),
     (
         (-1, 0, 0, 0),
-        &[(1_000, Fill(Set, b"b", 0, 786_368), Tells(OutOfMemory))],
+        &[(1_000, Fill(Set, b"b", 0, 786_368), Says(OutOfMemory))],
         4,
         b"abcd",
     ),
     (
         (-1, -1, -1, -1),
-        &[(1_000, Fill(Set, b"e", 0, 0), Tells(OutOfMemory))],
+        &[(1_000, Fill(Set, b"e", 0, 0), Says(OutOfMemory))],
         4,
         b"abcd",
     ),
@@ -250,7 +250,7 @@ const STICKY: [Eviction; 9] = [
 const LATE: [Eviction; 8] = [
     (
         (0, 10, 0, 0),
-        &[(1_010, Version, Tells(Word::Version)), E],
+        &[(1_010, Version, Says(Word::Version)), E],
         4,
         b"cde",
     ),
@@ -263,14 +263,14 @@ const LATE: [Eviction; 8] = [
     // Stored as one that has expired, it keeps its place.
     (
         PLAIN,
-        &[(1_000, Fill(Set, b"a", -2, QUARTER), Tells(Stored)), E, F],
+        &[(1_000, Fill(Set, b"a", -2, QUARTER), Says(Stored)), E, F],
         4,
         b"cdef",
     ),
     (
         PLAIN,
         &[
-            (1_000, Fill(Set, b"c", -2, QUARTER), Tells(Stored)),
+            (1_000, Fill(Set, b"c", -2, QUARTER), Says(Stored)),
             E,
             F,
             G,
@@ -280,27 +280,27 @@ const LATE: [Eviction; 8] = [
     ),
     (
         PLAIN,
-        &[(1_000, Touch(b"c", -2), Tells(Touched)), E, F],
+        &[(1_000, Touch(b"c", -2), Says(Touched)), E, F],
         4,
         b"def",
     ),
     // Where one stood that had expired, it comes as a new one, in front.
     (
         (10, 0, 0, 0),
-        &[(1_010, Fill(Set, b"a", -2, QUARTER), Tells(Stored)), E, F],
+        &[(1_010, Fill(Set, b"a", -2, QUARTER), Says(Stored)), E, F],
         4,
         b"def",
     ),
     (
         (10, 0, 0, 0),
-        &[(1_010, Fill(Set, b"a", 0, QUARTER), Tells(Stored)), E, F],
+        &[(1_010, Fill(Set, b"a", 0, QUARTER), Says(Stored)), E, F],
         4,
         b"adef",
     ),
     // `out of memory` leaves it dropped.
     (
         (10, 0, 0, 0),
-        &[(1_010, Fill(Set, b"a", 0, WHOLE + 1), Tells(OutOfMemory))],
+        &[(1_010, Fill(Set, b"a", 0, WHOLE + 1), Says(OutOfMemory))],
         3,
         b"bcd",
     ),
@@ -337,7 +337,7 @@ fn evict(
     let (a, b, c, d) = firsts;
     for (key, exptime) in [(b"a", a), (b"b", b), (b"c", c), (b"d", d)] {
         let reply = execute(&mut cache, filler, 1_000, Fill(Set, key, exptime, QUARTER));
-        assert!(rt; is_told(reply, Tells(Stored)));
+        assert!(rt; is_expected(reply, Says(Stored)));
     }
     assert_eq!(rt; cache.accounted(), 1_048_576);
     run(rt, &mut cache, filler, script);
@@ -384,25 +384,25 @@ fn keeps_unnamed_items_that_have_expired(rt: HostRuntime) -> Result<(), Fail> {
 
 // Joined values at their limit.
 const LARGE: Script = &[
-    (0, Fill(Set, b"a", 0, 1_048_575), Tells(Stored)),
-    (0, Fill(Append, b"a", 0, 1), Tells(Stored)),
-    (0, Fill(Append, b"a", 0, 1), Tells(TooLarge)),
-    (0, Fill(Prepend, b"a", 0, 1), Tells(TooLarge)),
-    (0, Fill(Append, b"a", 0, 1_048_576), Tells(TooLarge)),
-    (0, Fill(Prepend, b"a", 0, 0), Tells(Stored)),
+    (0, Fill(Set, b"a", 0, 1_048_575), Says(Stored)),
+    (0, Fill(Append, b"a", 0, 1), Says(Stored)),
+    (0, Fill(Append, b"a", 0, 1), Says(TooLarge)),
+    (0, Fill(Prepend, b"a", 0, 1), Says(TooLarge)),
+    (0, Fill(Append, b"a", 0, 1_048_576), Says(TooLarge)),
+    (0, Fill(Prepend, b"a", 0, 0), Says(Stored)),
 ];
 
 // Of 2,097,152 bytes 1,048,511 are left, and an item that adds more evicts the other.
 const FULL: Script = &[
-    (0, Fill(Set, b"b", 0, 1_048_446), Tells(Stored)),
-    (0, Store(Cas(3), b"a", 0, 0, b"x"), Tells(Stored)),
+    (0, Fill(Set, b"b", 0, 1_048_446), Says(Stored)),
+    (0, Store(Cas(3), b"a", 0, 0, b"x"), Says(Stored)),
     (0, Gets(b"a"), Rows(&[(b"a", 0, Some(5), b"x")])),
-    (0, Fill(Set, b"a", 0, 1_048_576), Tells(Stored)),
+    (0, Fill(Set, b"a", 0, 1_048_576), Says(Stored)),
 ];
 
 // One byte more.
 const MORE: Script = &[
-    (0, Fill(Append, b"b", 0, 1), Tells(Stored)),
+    (0, Fill(Append, b"b", 0, 1), Says(Stored)),
     (0, Get(b"a"), Rows(&[])),
 ];
 

@@ -2,7 +2,7 @@ use Rattle.std.proofs.Common.{◌≡◌, ap, ◌∙◌, arith}
 use Rattle.arc_core.specs.Places.{weight_of}
 use Rattle.byte_account.specs.Weight.{place_weight}
 use Rattle.byte_account.proofs.ShelfLists.{length-others-le}
-use Rattle.byte_account.proofs.EvictionLemmas.{weight-to_back, evicted_aside, evicted_behind, PopsDownTo-apart, PopsDownTo-aside_weight, PopsDownTo-aside_apart}
+use Rattle.byte_account.proofs.EvictionLemmas.{weight-last, weight-to_back, evicted_aside, evicted_behind, PopsDownTo-apart, PopsDownTo-aside_weight, PopsDownTo-aside_apart}
 use Rattle.byte_account.proofs.recency_list.RecencyList.evict.Goals as goal
 
 pub pop_down_to-freed-requires-clause-count : goal.pop_down_to-freed-requires-clause-count
@@ -17,7 +17,7 @@ promote-requires g c = PopsDownTo-apart (place_weight g.T.Weighs.weigh) c.args.k
 
 pub pop_many-more-requires : goal.pop_many-more-requires
 pop_many-more-requires g c =
-    omega (arith, PopsDownTo-aside_weight (place_weight g.T.Weighs.weigh) c.args.key.now c.args.n c.args.self.now c.pop_down_to-freed.new.self c.promote.new.self _ _ c.pop_down_to-freed.ensures c.requires.apart c.promote.ensures)
+    omega (arith, weight-last (place_weight g.T.Weighs.weigh) c.pop_down_to-freed.result.1 c.promote.new.self, PopsDownTo-aside_weight (place_weight g.T.Weighs.weigh) c.args.key.now c.args.n c.args.self.now c.pop_down_to-freed.new.self c.promote.new.self _ _ c.pop_down_to-freed.ensures c.requires.apart c.promote.ensures)
 
 pub demote-requires : goal.demote-requires
 demote-requires g c =

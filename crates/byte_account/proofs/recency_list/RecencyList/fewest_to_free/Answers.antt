@@ -15,7 +15,7 @@ differs b false t n = refl
 walked-other : (g : _) (c : goal.After-weigh_place-freed g)
     → IsWalked (place_weight g.T.Weighs.weigh) c.args.need c.args.key.now c.args.self.now (by_bytes (λ key. key.items) (rev_source c.next.new.self)) (c.loop-name.freed + c.weigh_place-freed.result) (c.loop-name.count + 1)
 walked-other g c =
-    rw c.weigh_place-freed.ensures
+    rw (c.weigh_place-freed.ensures, c.as_slice-then-ne.ensures.value)
     (IsWalked-other (place_weight g.T.Weighs.weigh) c.args.need c.args.key.now c.args.self.now _ _ (c.in-Some.name.now.items, c.in-Some.place.now) c.loop-name.freed c.loop-name.count c.loop-name.invariant.2 c.if-freed-need.false
     (by_bytes-push (λ key. key.items) (rev_source c.loop-name.name-iterator) (rev_source c.next.new.self) (c.in-Some.name.now, c.in-Some.place.now) c.in-Some.ensures.steps)
     (ap (bytes_eq c.args.key.now) (sym c.as_slice.ensures.value) ∙ differs c.ne.result (bytes_eq c.args.key.now c.as_slice.result.now) c.if-ne.true c.ne.ensures))

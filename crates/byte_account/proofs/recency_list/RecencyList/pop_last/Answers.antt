@@ -9,5 +9,5 @@ returns-clause-places g c = rw (← c.self.view_is, c.pop_lru.ensures.entries) (
 
 pub returns-clause-freed : goal.returns-clause-freed
 returns-clause-freed g c =
-    rw (← c.self.view_is, c.pop_lru.ensures.entries, c.weigh_place.ensures)
+    rw (← c.self.view_is, c.pop_lru.ensures.entries, c.weigh_place.ensures, c.as_slice.ensures.value)
     (weight-pop (λ key. key.items) (place_weight g.T.Weighs.weigh) c.self.inside.cache.entries (c.in-Some.name, c.in-Some.place) (sym c.in-Some.ensures.value))

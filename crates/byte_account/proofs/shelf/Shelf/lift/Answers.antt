@@ -1,26 +1,38 @@
-use Rattle.std.proofs.Common.{None, refl, ap, ◌∙◌, sym}
+use Rattle.std.proofs.Common.{◌≡◌, Some, None, refl, ap, ◌∙◌, sym}
 use Rattle.arc_core.specs.Places.{refilled}
 use Rattle.byte_account.specs.Weight.{place_weight}
 use Rattle.byte_account.proofs.AccountingLaws.{refilled-absent, IsAccounted-hollowed, IsAccounted-hollowed_none, weight_under-le, weight_of_item, weight_of_none}
+use Rattle.byte_account.proofs.ShareLaws.{IsWithinShare-hollowed, IsWithinShare-hollowed_none, sticky_part-le, part_of}
 use Rattle.byte_account.proofs.shelf.Shelf.lift.Goals as goal
 
 pub invariant_of-self : goal.invariant_of-self
 invariant_of-self g c =
-    rw (c.refill.ensures.list, c.refill.ensures.sticky)
-    (IsAccounted-hollowed_none (place_weight g.T.Weighs.weigh) c.args.key.now None (record { shelf = c.self.inside.list; sticky = c.self.inside.sticky; limit = c.self.inside.limit }) c.self.inside.total c.self.invariant refl
-    (weight_of_none g.T.Weighs.weigh c.args.key.now _ c.in_err-item.ensures.item))
-
-pub overflow_sub-self : goal.overflow_sub-self
-overflow_sub-self g c =
-    weight_under-le (place_weight g.T.Weighs.weigh) c.args.key.now (record { shelf = c.self.inside.list; sticky = c.self.inside.sticky; limit = c.self.inside.limit }) c.self.inside.total c.weight.result c.self.invariant
-    (weight_of_item g.T.Weighs.weigh c.args.key.now _ c.in_ok-item.item c.in_ok-item.ensures.item ∙ sym c.weight.ensures)
-
-pub invariant_of-self-2 : goal.invariant_of-self-2
-invariant_of-self-2 g c =
-    rw (c.refill.ensures.list, c.refill.ensures.sticky)
-    (IsAccounted-hollowed (place_weight g.T.Weighs.weigh) c.args.key.now None (record { shelf = c.self.inside.list; sticky = c.self.inside.sticky; limit = c.self.inside.limit }) c.self.inside.total c.weight.result c.self.invariant refl
-    (weight_of_item g.T.Weighs.weigh c.args.key.now _ c.in_ok-item.item c.in_ok-item.ensures.item ∙ sym c.weight.ensures))
+    let weigh = place_weight g.T.Weighs.weigh in
+    let none = weight_of_none g.T.Weighs.weigh c.args.key.now _ (sym c.in_err-item.was ∙ c.refill-taken.ensures.item) in
+    rw (c.refill-taken.ensures.list, c.refill-taken.ensures.sticky)
+    (IsAccounted-hollowed_none weigh c.args.key.now None _ c.self.inside.total c.self.invariant.0 refl none, IsWithinShare-hollowed_none weigh c.args.key.now None _ c.self.inside.sticky_total c.self.invariant.1 c.self.invariant.0.once refl none)
 
 pub returns-in_err-item-clause-absent : goal.returns-in_err-item-clause-absent
 returns-in_err-item-clause-absent g c = λ absent.
-    (λ i. record { shelf = c.refill.ensures.list i; sticky = c.refill.ensures.sticky i; limit = c.self.inside.limit }) ∙ ap (refilled c.args.key.now None) c.self.view_is ∙ refilled-absent c.args.key.now None c.args.self.now absent
+    (λ i. record { shelf = c.refill-taken.ensures.list i; sticky = c.refill-taken.ensures.sticky i; limit = c.self.inside.limit; share = c.self.inside.share }) ∙ ap (refilled c.args.key.now None) c.self.view_is ∙ refilled-absent c.args.key.now None c.args.self.now absent
+
+pub overflow_sub-self : goal.overflow_sub-self
+overflow_sub-self g c =
+    weight_under-le (place_weight g.T.Weighs.weigh) c.args.key.now _ c.self.inside.total c.weight-weight.result c.self.invariant.0
+    (weight_of_item g.T.Weighs.weigh c.args.key.now _ c.in_ok-item.item (sym c.in_ok-item.was ∙ c.refill-taken.ensures.item) ∙ sym c.weight-weight.ensures)
+
+pub overflow_sub-self-2 : goal.overflow_sub-self-2
+overflow_sub-self-2 g c =
+    sticky_part-le (place_weight g.T.Weighs.weigh) c.args.key.now _ c.self.inside.sticky_total c.weight-weight.result c.sticky_part.result c.self.invariant.1 c.self.invariant.0.once
+    (weight_of_item g.T.Weighs.weigh c.args.key.now _ c.in_ok-item.item (sym c.in_ok-item.was ∙ c.refill-taken.ensures.item) ∙ sym c.weight-weight.ensures)
+    (part_of _ _ _ c.weight-weight.result c.sticky_part.result c.refill-taken.ensures.side refl c.sticky_part.ensures)
+
+pub invariant_of-self-2 : goal.invariant_of-self-2
+invariant_of-self-2 g c =
+    let weigh = place_weight g.T.Weighs.weigh in
+    let is = weight_of_item g.T.Weighs.weigh c.args.key.now _ c.in_ok-item.item (sym c.in_ok-item.was ∙ c.refill-taken.ensures.item) ∙ sym c.weight-weight.ensures in
+    rw (c.refill-taken.ensures.list, c.refill-taken.ensures.sticky) (
+      IsAccounted-hollowed weigh c.args.key.now None _ c.self.inside.total c.weight-weight.result c.self.invariant.0 refl is,
+      IsWithinShare-hollowed weigh c.args.key.now _ c.self.inside.sticky_total c.weight-weight.result c.sticky_part.result c.self.invariant.1 c.self.invariant.0.once is
+          (part_of _ _ _ c.weight-weight.result c.sticky_part.result c.refill-taken.ensures.side refl c.sticky_part.ensures) None refl,
+    )

@@ -1,29 +1,21 @@
-use Rattle.std.proofs.Common.{◌≡◌, ◌∷◌, None, true, false, refl, ap, subst, sym, ◌∙◌}
-use Rattle.std.specs.FinMap as finite
+use Rattle.std.proofs.Common.{◌≡◌, None, refl, ap, subst, sym, ◌∙◌}
 use Rattle.arc_core.specs.Places.{found, placed}
 use Rattle.byte_account.specs.Weight.{place_weight}
-use Rattle.byte_account.proofs.PlacesLaws.{placed-new_sticky, placed-new_listed}
-use Rattle.byte_account.proofs.AccountingLaws.{IsAccounted-new_sticky, IsAccounted-new_listed}
+use Rattle.byte_account.proofs.PlacesLaws.{placed-new}
+use Rattle.byte_account.proofs.AccountingLaws.{IsAccounted-new}
+use Rattle.byte_account.proofs.ShareLaws.{IsWithinShare-new}
 use Rattle.byte_account.proofs.shelf.Shelf.reserve_new.Goals as goal
 
-pub invariant_of-self-then-sticky : goal.invariant_of-self-then-sticky
-invariant_of-self-then-sticky g c =
-    IsAccounted-new_sticky (place_weight g.T.Weighs.weigh) c.args.key None (record { shelf = c.self.inside.list; sticky = c.self.inside.sticky; limit = c.self.inside.limit }) _ c.self.inside.total c.self.invariant
-    (subst (λ p. found c.args.key p ≡ None) (sym c.self.view_is) c.requires) refl refl (c.in_ok-insert.ensures.ok ∙ ap (λ k. finite.insert c.self.inside.sticky k None) c.into_bytes-key.ensures.bytes) refl
+pub invariant_of-self-2 : goal.invariant_of-self-2
+invariant_of-self-2 g c =
+    let weigh = place_weight g.T.Weighs.weigh in
+    let absent = subst (λ p. found c.args.key p ≡ None) (sym c.self.view_is) c.requires in
+    let made = c.in_ok-make_place.ensures in (
+      IsAccounted-new weigh c.args.key None _ _ c.self.inside.total c.args.sticky c.self.invariant.0 absent refl made.list made.table refl refl,
+      IsWithinShare-new weigh c.args.sticky c.args.key None _ _ c.self.inside.sticky_total c.self.invariant.1 absent refl made.list made.table refl refl,
+    )
 
-pub returns-then-sticky-clause-ok : goal.returns-then-sticky-clause-ok
-returns-then-sticky-clause-ok g c =
-    placed-new_sticky c.args.key None (record { shelf = c.self.inside.list; sticky = c.self.inside.sticky; limit = c.self.inside.limit }) _ (subst (λ p. found c.args.key p ≡ None) (sym c.self.view_is) c.requires) refl
-    (c.in_ok-insert.ensures.ok ∙ ap (λ k. finite.insert c.self.inside.sticky k None) c.into_bytes-key.ensures.bytes) refl
-    ∙ ap (placed true c.args.key None) c.self.view_is ∙ ap (λ b. placed b c.args.key None c.args.self.now) (sym c.if-sticky.true)
-
-pub invariant_of-self-in_default : goal.invariant_of-self-in_default
-invariant_of-self-in_default g c =
-    IsAccounted-new_listed (place_weight g.T.Weighs.weigh) c.args.key None (record { shelf = c.self.inside.list; sticky = c.self.inside.sticky; limit = c.self.inside.limit }) _ c.self.inside.total c.self.invariant
-    (subst (λ p. found c.args.key p ≡ None) (sym c.self.view_is) c.requires) refl (c.in_default.ensures.ok ∙ ap (λ k. (k, None) ∷ c.self.inside.list) c.into_bytes-key.ensures.bytes) refl refl
-
-pub returns-in_default-clause-ok : goal.returns-in_default-clause-ok
-returns-in_default-clause-ok g c =
-    placed-new_listed c.args.key None (record { shelf = c.self.inside.list; sticky = c.self.inside.sticky; limit = c.self.inside.limit }) _ (subst (λ p. found c.args.key p ≡ None) (sym c.self.view_is) c.requires)
-    (c.in_default.ensures.ok ∙ ap (λ k. (k, None) ∷ c.self.inside.list) c.into_bytes-key.ensures.bytes) refl refl
-    ∙ ap (placed false c.args.key None) c.self.view_is ∙ ap (λ b. placed b c.args.key None c.args.self.now) (sym c.if-sticky.false)
+pub returns-clause-ok : goal.returns-clause-ok
+returns-clause-ok g c =
+    placed-new c.args.sticky c.args.key None _ _ (subst (λ p. found c.args.key p ≡ None) (sym c.self.view_is) c.requires) c.in_ok-make_place.ensures.list c.in_ok-make_place.ensures.table refl refl
+    ∙ ap (placed c.args.sticky c.args.key None) c.self.view_is

@@ -1,9 +1,27 @@
 use Rattle.std.proofs.Common.{◌∷◌, ap, sym, ◌∙◌}
 use Rattle.std.specs.FinMap as finite
 use Rattle.byte_account.specs.ByBytes.{map_by_bytes}
+use Rattle.byte_account.specs.Weight.{place_weight, weight_under}
 use Rattle.byte_account.proofs.ShelfLists.{same_key}
 use Rattle.byte_account.proofs.StickyMaps.{get-map_by_bytes, reordered, removed, put_back, place_of, not_found}
 use Rattle.byte_account.proofs.sticky_table.StickyTable.give_to.Goals as goal
+
+pub returns-in_default-clause-weight : goal.returns-in_default-clause-weight
+returns-in_default-clause-weight g c =
+    ap (weight_under (place_weight g.T.Weighs.weigh) c.args.key.now)
+    (c.in_default.ensures.value
+    ∙ sym (get-map_by_bytes (λ key. key.items) c.reserve.new.self.entries c.args.key.now)
+    ∙ ap (λ m. finite.get m c.args.key.now) (reordered (λ key. key.items) c.self.inside.table.entries c.reserve.new.self.entries c.in_ok-reserve.ensures.entries.2 ∙ c.self.view_is))
+
+pub returns-in-Ok-clause-weight : goal.returns-in-Ok-clause-weight
+returns-in-Ok-clause-weight g c =
+    c.weigh_place-weight.ensures
+    ∙ ap (λ k. place_weight g.T.Weighs.weigh k c.in-Some.place) c.as_slice.ensures.value
+    ∙ ap (λ k. place_weight g.T.Weighs.weigh k c.in-Some.place) (sym (same_key c.args.key.now c.in-Some.key.items c.in-Some.ensures.same_key))
+    ∙ ap (weight_under (place_weight g.T.Weighs.weigh) c.args.key.now)
+    (c.in-Some.ensures.value
+    ∙ sym (get-map_by_bytes (λ key. key.items) c.reserve.new.self.entries c.args.key.now)
+    ∙ ap (λ m. finite.get m c.args.key.now) (reordered (λ key. key.items) c.self.inside.table.entries c.reserve.new.self.entries c.in_ok-reserve.ensures.entries.2 ∙ c.self.view_is))
 
 pub returns-in_default-clause-list : goal.returns-in_default-clause-list
 returns-in_default-clause-list g c = λ place found.

@@ -18,4 +18,4 @@ returns-clause-acts c =
 
 pub returns-clause-text : goal.returns-clause-text
 returns-clause-text c =
-    answer_short c.args.unique c.max-latest.result c.args.keys.now c.self.inside.items c.in-Ok.found.rows c.rules.ensures.placed c.in-Ok.ensures.keys.0 c.in-Ok.ensures.keys.1 c.in-Ok.ensures.rows
+    answer_short c.args.unique c.max-latest.result c.args.keys.now c.self.inside.items c.in-Ok.found.rows c.keep_the_rules.ensures.placed c.in-Ok.ensures.keys.0 c.in-Ok.ensures.keys.1 c.in-Ok.ensures.rows

@@ -4,7 +4,7 @@ use Rattle.cache_engine.proofs.ItemPlaces.{HoldsItems-empty}
 use Rattle.cache_engine.proofs.items.Items.clear.Goals as goal
 
 pub invariant_of-self : goal.invariant_of-self
-invariant_of-self c = (HoldsItems-empty c.self.inside.shelf.limit c.clear.new.self c.clear.ensures).holds
+invariant_of-self c = (HoldsItems-empty c.self.inside.shelf.limit c.self.inside.shelf.share c.clear.new.self c.clear.ensures).holds
 
 pub returns : goal.returns
-returns c = (HoldsItems-empty c.self.inside.shelf.limit c.clear.new.self c.clear.ensures).are ∙ ap (λ p. empty_places p.limit) c.self.view_is
+returns c = (HoldsItems-empty c.self.inside.shelf.limit c.self.inside.shelf.share c.clear.new.self c.clear.ensures).are ∙ ap (λ p. empty_places p.limit p.share) c.self.view_is

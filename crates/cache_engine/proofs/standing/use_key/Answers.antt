@@ -1,6 +1,0 @@
-use Rattle.std.proofs.Common.{sym, ◌∙◌}
-use Rattle.cache_engine.proofs.Finishing.{used_expired}
-use Rattle.cache_engine.proofs.standing.use_key.Goals as goal
-
-pub returns-in-Expired : goal.returns-in-Expired
-returns-in-Expired c = used_expired c.args.latest c.args.key.now c.args.items.now c.remove.new.self (sym c.in-Expired.is ∙ c.requires) c.remove.ensures
