@@ -12,9 +12,9 @@ use Rattle.arc_core.specs.Item.{Item, size_of}
 use Rattle.arc_core.specs.Places.{weight_of}
 use Rattle.arc_core.specs.CacheState.{IsState}
 use Rattle.arc_core.specs.PlainRequest.{delete, touch, flush_all, version}
-use Rattle.arc_core.specs.Grammar.{CanBeSpelled, version_command, command_of}
-use Rattle.arc_core.specs.KeyValueGrammar.{Head}
-use Rattle.arc_core.specs.KeyValueGrammar as command
+use Rattle.arc_core.specs.declared.commands.CommandName.TheVariants as named
+use Rattle.arc_core.specs.declared.commands.Command.TheVariants as command
+use Rattle.arc_core.specs.Grammar.{CanBeSpelled, command_of}
 use Rattle.arc_core.specs.Step.{step}
 use Rattle.turn_lock.specs.Trials.{vacant_state}
 
@@ -58,8 +58,8 @@ spelled = (
   codes "version",
   [],
   (
-    record { command = command.version; answer = answer.Plain },
-    (version_command, [], record { name = codes "version"; words_are = refl; is_command = refl }, (refl, refl)),
+    record { command = command.Version; answer = answer.Plain },
+    (named.Version, [], record { first = codes "version"; words_are = refl; is_command = refl }, (refl, refl)),
     refl,
     refl,
   ),
