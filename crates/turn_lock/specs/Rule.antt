@@ -2,6 +2,15 @@
 --
 -- The table has two words, `ticket` and `serving`, one slot with the executor, and the view of each seat. There is one
 -- history. It exists in this rule alone, and no thread stores it.
+-- (a) The history is legal from the opening state, and each view has seen a beginning of it.
+-- (b) The calls that a view keeps under a number are the history's calls with that number, in order, and it has seen them.
+-- (c) Each number that was given is with one view, once; no other number is with a view or in the history. One view has
+--     the register, which has the next number.
+-- (d) The tickets that are out are the next places of the history, each once. The words have the next ticket and the one
+--     that is served, modulo 2^64.
+-- (e) At most one view has the turn. Its ticket is served, it has seen the whole history, and its seat holds the slot.
+-- (f) Where no view has the turn, the slot is at home with an executor that stands for the state after the history.
+-- A view that a join has spent knows nothing, and is excepted.
 use Rattle.std.specs.Prelude.{◌≡◌, ℕ, zero, suc, ◌+◌, ◌%◌, ◌^◌, ◌≤◌, List, [], ◌∷◌, length, slice_index, IfSome, None, ltb, leb, ◌&&◌, if◌then◌else◌}
 use Rattle.std.specs.List.{AllByRecursion}
 use mathlib.Core.Option.{Option, none, some}
@@ -74,23 +83,21 @@ module _ {E : Type 0} (state_of : E → CacheState) where
     pub next : ℕ
     -- how many tickets are out
     pub waiting : ℕ
-    -- the one history is legal, from the state that the executor stood for at the start
+    -- (a)
     pub legal : LeadsTo opening history current
-    -- each view stands in it
+    -- (a), (b), and of each view (c) and (e)
     pub fits : (id : ℕ) (view : View) → get_elem? table.views id ≡ some view → Fits opening history next view.kind view
-    -- Each number below the next one is with one view, as its own or as an ended one, and no other number is with any
-    -- view. No entry has another number.
+    -- (c): the views have as many numbers as were given, and each of these once
     pub few : next ≤ most_numbers
     pub count : total (λ view. length (numbers_of view)) table.views ≡ next
     pub once : (number : ℕ) → total (λ view. times number (numbers_of view)) table.views ≡ once_within 0 next number
     pub known : (number : ℕ) → next ≤ number → calls_of number history ≡ []
-    -- one view has the register
     pub register : total (λ view. registers_of view.register) table.views ≡ 1
-    -- The tickets that are out are the places behind the history, each once. The words have the next ticket and the one
-    -- that is served, modulo 2^64.
+    -- (d)
     pub words : length table.words ≡ 2
     pub ticket : slice_index table.words 0 ≡ (length history + waiting) % 2 ^ 64
     pub serving : slice_index table.words 1 ≡ length history % 2 ^ 64
     pub out : total (λ view. length (tickets_of view.turn)) table.views ≡ waiting
     pub tickets : (ticket : ℕ) → total (λ view. times ticket (tickets_of view.turn)) table.views ≡ once_within (length history) (length history + waiting) ticket
+    -- (e), (f)
     pub slot : IsSlot current (total (λ view. turns_of view.turn) table.views) table.homes
