@@ -1,5 +1,5 @@
 -- The elements below some children, by a child among them.
-use Rattle.std.proofs.Common.{◌≡◌, ℕ, ◌+◌, ◌*◌, ◌<◌, ◌≤◌, List, [], ◌∷◌, ◌++◌, length, get_or, take, drop, set, refl, ap, sym, ◌∙◌, subst, arith}
+use Rattle.std.proofs.Common.{◌≡◌, ℕ, zero, suc, ◌+◌, ◌*◌, ◌<◌, ◌≤◌, List, [], ◌∷◌, ◌++◌, length, get_or, take, drop, set, refl, ap, sym, ◌∙◌, subst, arith}
 use Rattle.std.specs.List.{All, insert, remove_range}
 use Rattle.std.proofs.lemmas.List.{take_more, drop_more, take-append-drop, length-append, append_assoc, append-nil, get_or_append_left, length-set, take-set, take_more_set, drop-set-lt, get_or-set_same}
 use Rattle.std.proofs.lemmas.List.Concat.{flat_map-append}
@@ -97,3 +97,9 @@ child_set children room i old other is_branch within old_is same wide roomy dens
       height = height_of_children (height_over children) (set children i other) (omega (arith, is_branch.some)) all;
       elements = set_elements children i other within;
     }
+
+-- a child as high as the one whose place it takes leaves the height
+pub height_set : (children : List Subtree) (i : ℕ) (old other : Subtree) → i < length children → old ≡ get_or children i old → other.height ≡ old.height → height_over (set children i other) ≡ height_over children
+height_set [] i old other within is same = refl
+height_set (child ∷ others) zero old other within is same = ap (λ h. h + 1) (same ∙ ap (λ (x : Subtree). x.height) is)
+height_set (child ∷ others) (suc i) old other within is same = refl

@@ -33,7 +33,7 @@ pub record IsShifted {X : Type 0} (left right xs ys : List X) : Type 0 where
   pub second_least : 16 ≤ length ys
   pub second_most : length ys ≤ 32
 
-pub shifted : {X : Type 0} (left right xs ys : List X) (a b : ℕ) → a ≡ length left → b ≡ length right → a ≤ 32 → 16 ≤ a → b < 16 → 32 < a + b
+pub shifted : {X : Type 0} (left right xs ys : List X) (a b : ℕ) → a ≡ length left → b ≡ length right → a ≤ 32 → 16 ≤ a → b < 16 → 32 ≤ a + b
     → xs ≡ take (length left - (a - b) / 2) left → ys ≡ drop (length left - (a - b) / 2) left ++ right → IsShifted left right xs ys
 shifted left right xs ys a b a_is b_is most least short together xs_is ys_is =
     let n = length left - (a - b) / 2 in

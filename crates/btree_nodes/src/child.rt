@@ -11,6 +11,8 @@ mod insertion;
 mod making;
 mod pairing;
 mod removal;
+mod replacing;
+mod rooting;
 mod splitting;
 
 pub(crate) use finding::child_at;

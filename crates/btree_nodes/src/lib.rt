@@ -5,8 +5,10 @@
 mod child;
 mod moving;
 mod runs;
+mod search;
 mod spare;
 mod steps;
 
 pub use child::{Child, Part};
+pub use search::{child_with, number_below};
 pub use steps::Steps;

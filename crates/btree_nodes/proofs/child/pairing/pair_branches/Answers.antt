@@ -1,4 +1,4 @@
-use Rattle.std.proofs.Common.{rules, arith, ◌≡◌, ◌≤◌, ◌+◌, ◌++◌, ◌∙◌, ap, sym, subst, refl, length, vec_capacity}
+use Rattle.std.proofs.Common.{rules, arith, ◌≡◌, ◌≤◌, ◌<◌, ◌+◌, ◌++◌, ◌∙◌, ap, sym, subst, refl, length, vec_capacity}
 use Rattle.std.specs.List.{All}
 use Rattle.std.proofs.lemmas.List.{length-append}
 use Rattle.btree_nodes.specs.Subtree.{Subtree, all_elements, branch_of, height_over, IsBranch, IsChildAt}
@@ -7,8 +7,8 @@ use Rattle.btree_nodes.proofs.RunLemmas.{all_front, all_behind}
 use Rattle.btree_nodes.proofs.PairLemmas.{all_of_both, as_child, both_elements}
 use Rattle.btree_nodes.proofs.child.pairing.pair_branches.Goals as goal
 
-pub returns-then-len-le-MAX_WIDTH : goal.returns-then-len-le-MAX_WIDTH
-returns-then-len-le-MAX_WIDTH c =
+pub returns-then-len-lt-MAX_WIDTH : goal.returns-then-len-lt-MAX_WIDTH
+returns-then-len-lt-MAX_WIDTH c =
     let left = c.args.left.items in
     let right = c.args.right.items in
     let is = rw c.unwrap.ensures at c.append.ensures.items in
@@ -16,6 +16,7 @@ returns-then-len-le-MAX_WIDTH c =
     let all = subst (All (IsChildAt (height_over left))) (sym is) (all_of_both left right (vec_capacity c.args.left) (vec_capacity c.args.right) c.requires.left c.requires.right c.requires.level) in
     let count = ap length is ∙ length-append left right in
     (as_child joined.items (vec_capacity joined) (height_over left) c.of_branch.result all (omega arith) (omega arith) (omega (arith, c.requires.left.roomy)) c.of_branch.ensures,
+      subst (λ (x : Subtree). x.width < 32) (sym c.of_branch.ensures) (omega arith),
       ap (λ (x : Subtree). x.elements) c.of_branch.ensures ∙ (ap all_elements is ∙ all_append left right))
 
 pub of_branch-requires-2-clause-branch : goal.of_branch-requires-2-clause-branch
