@@ -10,3 +10,4 @@ pub mod MendLemmas
 pub mod TrimLemmas
 pub mod SearchLemmas
 pub mod WayLemmas
+pub mod TreeLemmas

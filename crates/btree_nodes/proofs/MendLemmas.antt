@@ -1,14 +1,13 @@
 -- Two neighbours that are taken out of a branch, and what is put back in their place.
-use Rattle.std.proofs.Common.{◌≡◌, ◌≢◌, ℕ, suc, ◌+◌, ◌-◌, ◌<◌, ◌≤◌, List, [], ◌∷◌, ◌++◌, length, get_or, take, drop, Option, Some, None, refl, ap, sym, ◌∙◌, subst, arith}
-use Rattle.std.specs.List.{All, remove, insert}
+use Rattle.std.proofs.Common.{◌≡◌, ◌≢◌, ℕ, suc, ◌+◌, ◌-◌, ◌<◌, ◌≤◌, List, [], ◌∷◌, ◌++◌, length, get_or, take, drop, Option, Some, None, ap, sym, ◌∙◌, subst, arith}
+use Rattle.std.specs.List.{All, remove}
 use Rattle.std.specs.Option.{option_to_list}
-use Rattle.std.proofs.lemmas.List.{append_assoc, append-nil, length-append, length-take, length-take-le, length-drop, take-append-drop, drop_more, take_at, drop_at, drop-drop, get_or-take, get_or-drop, get_or-append_right, get_or_at}
+use Rattle.std.proofs.lemmas.List.{append_assoc, append-nil, length-append, length-take-le, length-drop, take-append-drop, drop_more, take_at, drop_at, drop-drop, get_or-take, get_or-drop, get_or-append_right, get_or_at}
 use Rattle.std.proofs.lemmas.List.Elements.{All-append, All-cons, All-nil}
 use Rattle.std.proofs.Math.Seq.{drop-append-add}
-use Rattle.arc_core.specs.declared.trees.Elem.{Elem}
-use Rattle.btree_nodes.specs.Subtree.{Subtree, all_elements, height_over, branch_of, IsBranch, IsChildAt}
-use Rattle.btree_nodes.specs.Removal.{IsLooseAt, IsLooseBranch, IsPaired, IsMended}
-use Rattle.btree_nodes.proofs.ChildrenLemmas.{all_append, all_one, branch_from, height_of_children}
+use Rattle.btree_nodes.specs.Subtree.{Subtree, all_elements, height_over, IsChildAt}
+use Rattle.btree_nodes.specs.Removal.{IsLooseBranch, IsPaired, IsMended}
+use Rattle.btree_nodes.proofs.ChildrenLemmas.{all_append, branch_from, height_of_children}
 
 -- What is left of a list, of which a and b stood at the places p and p + 1.
 pub record AreOut {X : Type 0} (xs rest : List X) (p : ℕ) (a b : X) : Type 0 where
@@ -96,5 +95,5 @@ mended children rest new room room' index p a b first second loose rooms within 
       height = height_of_children (height_over children) new (omega (arith, new_length)) all;
       length_is = omega (arith, new_length, count);
       alone = λ one d. subst (λ (x : Subtree). x.width < 32) (sym (ap (λ ys. get_or ys 0 d) is ∙ get_or_at A first (option_to_list second ++ B) d 0 (omega (arith, len, one, new_length, within))))
-        (paired_alone (height_over children) a b first second paired (omega (arith, one, new_length, within)));
+          (paired_alone (height_over children) a b first second paired (omega (arith, one, new_length, within)));
     }

@@ -1,7 +1,7 @@
 -- Parts of a list between others.
-use Rattle.std.proofs.Common.{◌≡◌, ℕ, ◌+◌, ◌-◌, ◌<◌, ◌≤◌, List, [], ◌∷◌, ◌++◌, length, get_or, take, drop, set, refl, ap, sym, ◌∙◌, subst, arith}
-use Rattle.std.specs.List.{remove, remove_range, between}
-use Rattle.std.proofs.lemmas.List.{append_assoc, length-append, take-append-le, drop-append-le, take_at, drop_at, drop-drop, get_or_append_left, get_or-append-add, length-take-le, length-drop, set-append_left, set-append_right}
+use Rattle.std.proofs.Common.{◌≡◌, ℕ, ◌+◌, ◌-◌, ◌<◌, ◌≤◌, List, ◌++◌, length, get_or, take, drop, set, refl, ap, sym, ◌∙◌, arith}
+use Rattle.std.specs.List.{remove_range, between}
+use Rattle.std.proofs.lemmas.List.{append_assoc, take-append-le, drop-append-le, drop_at, drop-drop, get_or_append_left, get_or-append-add, length-drop, set-append_left, set-append_right}
 use Rattle.std.proofs.Math.Seq.{take-append-add}
 
 module _ {X : Type 0} where

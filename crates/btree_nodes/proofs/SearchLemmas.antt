@@ -1,23 +1,22 @@
 -- Elements by rising bkeys below and above a bkey.
-use Rattle.std.proofs.Common.{◌≡◌, ℕ, zero, suc, ◌+◌, ◌-◌, ◌<◌, ◌≤◌, ◌⊎◌, Bool, true, false, not, ◌||◌, cond, List, [], ◌∷◌, ◌++◌, length, get_or, take, drop, refl, ap, sym, ◌∙◌, subst, inl, inr, arith}
-use Rattle.std.specs.List.{All, AllPairs, count_by, sum_by, list_any}
+use Rattle.std.proofs.Common.{◌≡◌, ℕ, zero, suc, ◌+◌, ◌<◌, ◌≤◌, ◌⊎◌, Bool, true, false, ◌||◌, cond, List, [], ◌∷◌, ◌++◌, length, get_or, refl, ap, sym, ◌∙◌, inl, inr, arith}
+use Rattle.std.specs.List.{count_by, list_any}
 use Rattle.std.specs.Ordering.{is_lt, is_eq, is_le, ordering_reverse}
 use Rattle.std.specs.declared.cmp.Ordering.{Ordering}
 use Rattle.std.specs.declared.cmp.Ordering.TheVariants.{Less, Equal, Greater}
-use Rattle.std.proofs.lemmas.Bool.{cases_eq, cases_lt}
+use Rattle.std.proofs.lemmas.Bool.{cases_eq}
 use Rattle.std.proofs.lemmas.List.{length-append, get_or_append_left, get_or-append-add}
 use Rattle.std.proofs.lemmas.List.Sums.{sum_by-cons, sum_by-append}
 use Rattle.std.proofs.lemmas.List.Folds.{list_any-append, list_any_none}
-use Rattle.std.specs.BTreeMap.Comparable.{le_lt_trans}
 use Rattle.arc_core.specs.declared.bkeys.Bkey.{Bkey}
 use Rattle.arc_core.specs.declared.trees.Elem.{Elem}
 use Rattle.arc_core.specs.BkeyOrder.{bkey_cmp}
 use Rattle.arc_core.specs.BkeyLaws.{bkey_cmp_total, bkey_cmp-IsAntisymmetric}
-use Rattle.arc_core.specs.TreeContents.{MayPrecede, IsRising, is_below, place_of}
+use Rattle.arc_core.specs.TreeContents.{IsRising, is_below, place_of}
 use Rattle.btree_nodes.specs.Ways.{has_bkey}
 
 -- a test is passed or not
-bool_cases : (b : Bool) → (b ≡ true) ⊎ (b ≡ false)
+pub bool_cases : (b : Bool) → (b ≡ true) ⊎ (b ≡ false)
 bool_cases true = inl refl
 bool_cases false = inr refl
 
@@ -34,16 +33,16 @@ less Greater is = cc is
 pub below_down : (bkey : Bkey) (elements : List Elem) (k m : ℕ) (d : Elem) → IsRising elements → k ≤ m → m < length elements → is_below bkey (get_or elements m d) ≡ true → is_below bkey (get_or elements k d) ≡ true
 below_down bkey elements k m d rising order within below =
     elim (cases_eq k m) [
-      inl same ↦ ap (λ n. is_below bkey (get_or elements n d)) same ∙ below
-    | inr other ↦ ap is_lt (bkey_cmp_total.trans (get_or elements k d).bkey (get_or elements m d).bkey bkey (rising k m d (omega arith) within).below (less (bkey_cmp (get_or elements m d).bkey bkey) below))
+      | inl same ↦ ap (λ n. is_below bkey (get_or elements n d)) same ∙ below
+      | inr other ↦ ap is_lt (bkey_cmp_total.trans (get_or elements k d).bkey (get_or elements m d).bkey bkey (rising k m d (omega arith) within).below (less (bkey_cmp (get_or elements m d).bkey bkey) below))
     ]
 
 -- above what is not below the bkey nothing is
 pub not_below_up : (bkey : Bkey) (elements : List Elem) (k m : ℕ) (d : Elem) → IsRising elements → m ≤ k → k < length elements → is_below bkey (get_or elements m d) ≡ false → is_below bkey (get_or elements k d) ≡ false
 not_below_up bkey elements k m d rising order within not_below =
     elim (bool_cases (is_below bkey (get_or elements k d))) [
-      inl passed ↦ let both = below_down bkey elements m k d rising order within passed in cc
-    | inr failed ↦ failed
+      | inl passed ↦ let both = below_down bkey elements m k d rising order within passed in cc
+      | inr failed ↦ failed
     ]
 
 -- a test that a front passes and nothing behind it
@@ -86,11 +85,11 @@ front_below bkey A Z k d rising within some le =
 pub behind_above : (bkey : Bkey) (Z : List Elem) (k : ℕ) (d : Elem) → IsRising Z → k < length Z → is_le (bkey_cmp (get_or Z 0 d).bkey bkey) ≡ false → bkey_cmp (get_or Z k d).bkey bkey ≡ Greater
 behind_above bkey Z k d rising within above =
     elim (bool_cases (is_le (bkey_cmp (get_or Z k d).bkey bkey))) [
-      inl le ↦ elim (cases_eq 0 k) [
-        inl same ↦ let e = ap (λ n. is_le (bkey_cmp (get_or Z n d).bkey bkey)) same in cc
-      | inr other ↦ let lt = lt_le (get_or Z 0 d).bkey (get_or Z k d).bkey bkey (rising 0 k d (omega arith) within).below le in let e = ap is_le lt in cc
+      | inl le ↦ elim (cases_eq 0 k) [
+        | inl same ↦ let e = ap (λ n. is_le (bkey_cmp (get_or Z n d).bkey bkey)) same in cc
+        | inr other ↦ let lt = lt_le (get_or Z 0 d).bkey (get_or Z k d).bkey bkey (rising 0 k d (omega arith) within).below le in let e = ap is_le lt in cc
       ]
-    | inr failed ↦ greater (bkey_cmp (get_or Z k d).bkey bkey) failed
+      | inr failed ↦ greater (bkey_cmp (get_or Z k d).bkey bkey) failed
     ]
 
 -- the bkey's place among elements in front of it, others, and elements behind it

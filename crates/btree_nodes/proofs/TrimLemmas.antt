@@ -1,8 +1,8 @@
 -- What a run that is removed below a child leaves of the branch over it.
-use Rattle.std.proofs.Common.{◌≡◌, ◌≢◌, ℕ, ◌+◌, ◌-◌, ◌%◌, ◌^◌, ◌<◌, ◌≤◌, List, [], ◌∷◌, ◌++◌, length, get_or, take, drop, set, refl, ap, sym, ◌∙◌, subst, inr, arith}
+use Rattle.std.proofs.Common.{◌≡◌, ℕ, ◌+◌, ◌-◌, ◌%◌, ◌^◌, ◌<◌, ◌≤◌, List, [], ◌∷◌, ◌++◌, length, get_or, take, drop, set, refl, ap, sym, ◌∙◌, subst, inr, arith}
 use Rattle.std.specs.List.{All, between, remove_range}
 use Rattle.std.proofs.lemmas.List.{length-append, length-set, get_or-set_other, get_or_append_left, length-take-le, take-append-drop, length-take, length-drop, append-nil, nil_from_length}
-use Rattle.std.proofs.lemmas.List.Elements.{All-set, All-weaker, All-head}
+use Rattle.std.proofs.lemmas.List.Elements.{All-set, All-head}
 use Rattle.arc_core.specs.declared.bkeys.Bkey.{Bkey}
 use Rattle.arc_core.specs.declared.trees.Elem.{Elem}
 use Rattle.arc_core.specs.TreeContents.{elem_sizes}
@@ -43,15 +43,17 @@ loosened children room i o limit old new run is_branch two within old_is trimmed
     let loose : IsLooseAt H new = record { level = omega (arith, was.level, trimmed.height); high = omega (arith, was.high, trimmed.height); roomy = omega (arith, was.roomy, trimmed.room); dense = trimmed.dense } in
     let all = All-set (IsLooseAt H) children i new loose (λ k d below. let l = is_branch.balanced k d below in record { level = l.level; high = l.high; roomy = l.roomy; dense = l.dense }) in
     let len = length-set children i new in
-    let same = height_of_loose H (set children i new) (omega (arith, two)) all in
-    (record {
-      two = omega (arith, two);
-      most = omega (arith, is_branch.most);
-      roomy = is_branch.roomy;
-      within = omega (arith, within);
-      balanced = subst (λ level. All (IsLooseAt level) (set children i new)) (sym same) all;
-      wide = λ k d below other. subst (λ (x : Subtree). 16 ≤ x.width) (sym (get_or-set_other children i k new d other)) (is_branch.balanced k d (omega (arith, below))).wide;
-    }, same)
+    let same = height_of_loose H (set children i new) (omega (arith, two)) all in (
+      record {
+        two = omega (arith, two);
+        most = omega (arith, is_branch.most);
+        roomy = is_branch.roomy;
+        within = omega (arith, within);
+        balanced = subst (λ level. All (IsLooseAt level) (set children i new)) (sym same) all;
+        wide = λ k d below other. subst (λ (x : Subtree). 16 ≤ x.width) (sym (get_or-set_other children i k new d other)) (is_branch.balanced k d (omega (arith, below))).wide;
+      },
+      same,
+    )
 
 -- no more elements are left than there were
 pub trimmed_fits : (children : List Subtree) (i o limit : ℕ) (old new : Subtree) (run : Run) → i < length children → old ≡ get_or children i old → IsTrimmed old o limit new run

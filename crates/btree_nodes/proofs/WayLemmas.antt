@@ -1,17 +1,18 @@
 -- The child below which a bkey stands.
-use Rattle.std.proofs.Common.{◌≡◌, ℕ, zero, suc, ◌+◌, ◌-◌, ◌<◌, ◌≤◌, Bool, true, false, List, [], ◌∷◌, ◌++◌, length, get_or, take, drop, refl, ap, sym, ◌∙◌, subst, inl, inr, arith}
-use Rattle.std.specs.List.{All, AllPairs}
+use Rattle.std.proofs.Common.{◌≡◌, ℕ, ◌+◌, ◌<◌, ◌≤◌, true, false, List, ◌++◌, length, get_or, take, drop, ap, ◌∙◌, subst, inl, inr, arith}
 use Rattle.std.specs.Ordering.{is_le}
 use Rattle.std.proofs.lemmas.Bool.{cases_lt}
-use Rattle.std.proofs.lemmas.List.{length-append, get_or_append_left, get_or-append-add, drop_more, drop_all, append_assoc}
+use Rattle.std.proofs.lemmas.List.{length-append, get_or_append_left, get_or-append-add, drop_more, drop_all}
 use Rattle.std.specs.declared.cmp.Ordering.TheVariants.{Less, Greater}
 use Rattle.arc_core.specs.declared.bkeys.Bkey.{Bkey}
 use Rattle.arc_core.specs.declared.trees.Elem.{Elem}
 use Rattle.arc_core.specs.BkeyOrder.{bkey_cmp}
 use Rattle.arc_core.specs.TreeContents.{MayPrecede, IsRising, place_of}
-use Rattle.btree_nodes.specs.Subtree.{Subtree, all_elements}
+use Rattle.btree_nodes.specs.Subtree.{Subtree, all_elements, height_over}
+use Rattle.btree_nodes.specs.PartRules.{AreChildren}
 use Rattle.btree_nodes.specs.Ways.{IsWayTo, HasEach, has_bkey}
 use Rattle.btree_nodes.proofs.ChildrenLemmas.{all_split}
+use Rattle.btree_nodes.proofs.BalanceLemmas.{child_some}
 use Rattle.btree_nodes.proofs.SearchLemmas.{front_below, behind_above, place_between, found_between}
 
 -- what rises behind other elements rises
@@ -47,15 +48,15 @@ apart bkey children i d within each rising low high =
     let some = each i d within in
     record {
       before = λ k e below. front_below bkey A (M ++ R) k e up below (omega (arith, length-append M R, some))
-        (ap (λ (x : Elem). is_le (bkey_cmp x.bkey bkey)) (get_or_append_left M R e 0 some) ∙ low d e (elim (cases_lt 0 i) [ inl positive ↦ positive | inr none ↦ absurd (omega (arith, below, ap (λ n. length (all_elements (take n children))) (nothing i none))) ]));
+          (ap (λ (x : Elem). is_le (bkey_cmp x.bkey bkey)) (get_or_append_left M R e 0 some) ∙ low d e (elim (cases_lt 0 i) [ inl positive ↦ positive | inr none ↦ absurd (omega (arith, below, ap (λ n. length (all_elements (take n children))) (nothing i none))) ]));
       behind = λ k e below. elim (cases_lt (i + 1) (length children)) [
-          inl more ↦
+        | inl more ↦
             let next = drop_more children (i + 1) d more in
             let there : R ≡ (get_or children (i + 1) d).elements ++ all_elements (drop (i + 1 + 1) children) = ap all_elements next in
             let first = ap (λ ys. get_or ys 0 e) there ∙ get_or_append_left (get_or children (i + 1) d).elements (all_elements (drop (i + 1 + 1) children)) e 0 (each (i + 1) d more) in
             behind_above bkey R k e (rising_behind M R (rising_behind A (M ++ R) up)) below (ap (λ (x : Elem). is_le (bkey_cmp x.bkey bkey)) first ∙ high d e more)
         | inr last ↦ absurd (omega (arith, below, ap (λ ys. length (all_elements ys)) (drop_all (i + 1) children last)))
-        ];
+      ];
     }
 
 pub way_at : (bkey : Bkey) (children : List Subtree) (i : ℕ) → i < length children → HasEach children → IsRising (all_elements children)
@@ -65,7 +66,19 @@ pub way_at : (bkey : Bkey) (children : List Subtree) (i : ℕ) → i < length ch
 way_at bkey children i within each rising low high = record {
   within = within;
   place = λ d. let sides = apart bkey children i d within each rising low high in
-    ap (place_of bkey) (all_split children i d within) ∙ place_between bkey (all_elements (take i children)) (get_or children i d).elements (all_elements (drop (i + 1) children)) sides.before sides.behind;
+      ap (place_of bkey) (all_split children i d within) ∙ place_between bkey (all_elements (take i children)) (get_or children i d).elements (all_elements (drop (i + 1) children)) sides.before sides.behind;
   found = λ d. let sides = apart bkey children i d within each rising low high in
-    ap (has_bkey bkey) (all_split children i d within) ∙ found_between bkey (all_elements (take i children)) (get_or children i d).elements (all_elements (drop (i + 1) children)) sides.before sides.behind;
+      ap (has_bkey bkey) (all_split children i d within) ∙ found_between bkey (all_elements (take i children)) (get_or children i d).elements (all_elements (drop (i + 1) children)) sides.before sides.behind;
 }
+
+-- below each child of a branch is an element
+pub each_some : (children : List Subtree) → AreChildren children → HasEach children
+each_some children are k d within = child_some (height_over children) (get_or children k d) (are.balanced k d within)
+
+-- the elements below a child rise
+pub rising_child : (children : List Subtree) (i : ℕ) (d : Subtree) → i < length children → IsRising (all_elements children) → IsRising (get_or children i d).elements
+rising_child children i d within rising =
+    let M = (get_or children i d).elements in
+    let A = all_elements (take i children) in
+    let R = all_elements (drop (i + 1) children) in
+    rising_front M R (rising_behind A (M ++ R) (subst IsRising (all_split children i d within) rising))

@@ -1,5 +1,5 @@
 -- What contracts see of a tree.
-use Rattle.std.specs.Prelude.{ℕ, ◌+◌, ◌-◌, ◌^◌, ◌≤◌, List}
+use Rattle.std.specs.Prelude.{ℕ, ◌-◌, ◌^◌, ◌≤◌, List}
 use Rattle.arc_core.specs.declared.trees.Elem.{Elem}
 
 -- The elements by rising bkeys, for how many further elements there is room, and how many nodes stand on a way from the root

@@ -1,5 +1,5 @@
 -- What holds of a tree, and when it has room for one more element.
-use Rattle.std.specs.Prelude.{◌≡◌, ℕ, ◌+◌, ◌≤◌, ◌<◌, nat_lt, nat_le, Bool, ◌==◌, ◌&&◌, ◌||◌, if◌then◌else◌, length}
+use Rattle.std.specs.Prelude.{◌≡◌, ℕ, ◌+◌, ◌≤◌, nat_lt, nat_le, Bool, ◌==◌, ◌&&◌, ◌||◌, if◌then◌else◌, length}
 use Rattle.arc_core.specs.TreeContents.{IsRising}
 use Rattle.btree_nodes.specs.declared.spare.Spare.{Spare}
 use Rattle.btree_nodes.specs.Subtree.{Subtree, IsDense}
@@ -9,7 +9,6 @@ use Rattle.btree_nodes.specs.Contents.{Contents}
 pub record IsRoot (root : Subtree) : Type 0 where
   pub high : 1 ≤ root.height
   pub two : 2 ≤ root.height → 2 ≤ root.width
-  pub most : root.width ≤ 32
   pub roomy : 2 ≤ root.height → 32 ≤ root.room
   pub dense : IsDense root
 

@@ -8,7 +8,9 @@ mod runs;
 mod search;
 mod spare;
 mod steps;
+mod tree;
 
 pub use child::{Child, Part};
-pub use search::{child_with, number_below};
+pub use search::{child_with, count_before, number_below};
 pub use steps::Steps;
+pub use tree::Tree;

@@ -1,10 +1,10 @@
 //! Searches by bkey.
-ghost use Rattle.std.specs.Prelude.{◌≡◌, ◌≤◌, ◌<◌, length};
+ghost use Rattle.std.specs.Prelude.{◌≡◌, ◌≤◌, ◌<◌, length, take};
 ghost use Rattle.arc_core.specs.TreeContents.{IsRising, place_of};
 ghost use Rattle.btree_nodes.specs.Subtree.{all_elements};
 ghost use Rattle.btree_nodes.specs.Ways.{IsWayTo, HasEach};
 
-use crate::child::Child;
+use crate::child::{Child, count_below};
 use arc_core::{Bkey, Elem};
 
 /// How many of the elements have smaller bkeys. The elements are by rising bkeys.
@@ -27,6 +27,18 @@ pub fn number_below(elements: &[Elem], bkey: &Bkey) -> usize
         middle = low + (high - low) / 2;
     }
     low
+}
+
+/// How many elements there are below the children before `index`, of the `total` below all.
+pub fn count_before(children: &[Child], total: u32, index: usize) -> u32
+    requires total { total ≡ length (all_elements children.now) }
+    requires within { index ≤ length children.now }
+    ensures { result ≡ length (all_elements (take index children.now)) }
+{
+    if index <= children.len() / 2 {
+        return count_below(&children[..index]);
+    }
+    total - count_below(&children[index..])
 }
 
 /// The child below which a bkey stands, or would stand. The elements below the children are by rising bkeys, and there is

@@ -1,5 +1,5 @@
 //! Roots that grow and fall.
-ghost use Rattle.std.specs.Prelude.{◌≡◌, ◌+◌, ◌^◌, ◌≤◌, ◌<◌, ◌++◌, insert, length, vec_capacity};
+ghost use Rattle.std.specs.Prelude.{◌≡◌, ◌+◌, ◌^◌, ◌≤◌, ◌<◌, ◌++◌, insert, length, vec_capacity, OnOk, OnErr};
 ghost use Rattle.btree_nodes.specs.Subtree.{Subtree, IsDense};
 ghost use Rattle.btree_nodes.specs.NodeRules.{subtree_of, IsNode};
 ghost use Rattle.btree_nodes.specs.Rooting.{IsEither, IsRaised, IsTrimmedRoot};
@@ -8,17 +8,11 @@ ghost use Rattle.btree_nodes.specs.SpareNodes.{AreEnough};
 use super::removal::{least_of, trim_below};
 use super::{Child, Node};
 use crate::runs::{Run, take_run};
-use crate::spare::Spare;
-use arc_core::Elem;
+use crate::spare::{MAX_WIDTH, Spare};
+use arc_core::{Elem, NoMemory};
 
 /// Inserts an element at a place among those below two neighbours, neither of which is full.
-fn insert_either(
-    first: &mut Child,
-    second: &mut Child,
-    place: usize,
-    elem: Elem,
-    spare: &mut Spare,
-)
+fn insert_either(first: &mut Child, second: &mut Child, place: usize, elem: Elem, spare: &mut Spare)
     requires first { (first.old.width < 32) × (32 ≤ first.old.room) × IsDense first.old }
     requires second { (second.old.width < 32) × (32 ≤ second.old.room) × IsDense second.old }
     requires level { second.old.height ≡ first.old.height }
@@ -58,13 +52,7 @@ impl Child {
 
 /// Removes at least one and at most `most` elements from a place on among the `total` elements below a root, which falls
 /// to its only child where no other is left. `height` follows the root's.
-fn trim_root(
-    root: &mut Node,
-    height: &mut u32,
-    total: usize,
-    place: usize,
-    most: usize,
-) -> Run
+fn trim_root(root: &mut Node, height: &mut u32, total: usize, place: usize, most: usize) -> Run
     requires node { IsNode root.old }
     requires two { 2 ≤ (subtree_of root.old).height → 2 ≤ (subtree_of root.old).width }
     requires height { height.old ≡ (subtree_of root.old).height }
@@ -91,6 +79,28 @@ fn trim_root(
 }
 
 impl Child {
+    /// Makes room for one more element in a leaf that is not full.
+    ///
+    /// `NoMemory` comes for want of memory alone. It never comes where there is room.
+    pub(crate) fn grow(&mut self) -> Result<(), NoMemory>
+        requires leaf { self.old.height ≡ 1 }
+        requires not_full { self.old.width < 32 }
+        ensures elements { self.new.elements ≡ self.old.elements }
+        ensures height { self.new.height ≡ 1 }
+        ensures width { self.new.width ≡ self.old.width }
+        ensures room { OnOk result (self.new.width < self.new.room) }
+        ensures kept { self.old.room ≤ self.new.room }
+        ensures refused { OnErr result (self.old.room ≤ self.old.width) }
+    {
+        if let Node::Leaf(elements) = &mut self.node
+            && elements.len() == elements.capacity()
+        {
+            let more = (elements.len() / 2 + 2).min(MAX_WIDTH - elements.len());
+            elements.reserve_exact(more)?;
+        }
+        Ok(())
+    }
+
     /// Removes at least one and at most `most` elements from a place on among those below a root, which falls to its only
     /// child where no other is left. `height` follows the root's.
     pub(crate) fn trim_as_root(&mut self, height: &mut u32, place: usize, most: usize) -> Run

@@ -1,8 +1,6 @@
-use Rattle.std.proofs.Common.{◌≡◌, ◌+◌, arith, ap, sym, ◌∙◌, subst, false, length, get_or}
+use Rattle.std.proofs.Common.{◌≡◌, ◌+◌, arith, ap, sym, ◌∙◌, get_or}
 use Rattle.std.specs.Ordering.{is_le}
-use Rattle.arc_core.specs.declared.trees.Elem.{Elem}
 use Rattle.arc_core.specs.BkeyOrder.{bkey_cmp}
-use Rattle.btree_nodes.specs.Subtree.{Subtree}
 use Rattle.btree_nodes.proofs.WayLemmas.{way_at}
 use Rattle.btree_nodes.proofs.search.child_with.Goals as goal
 

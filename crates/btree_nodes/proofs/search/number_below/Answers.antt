@@ -1,7 +1,6 @@
-use Rattle.std.proofs.Common.{◌≡◌, ◌+◌, ◌≤◌, ◌<◌, true, false, arith, ap, sym, ◌∙◌, subst, length, get_or}
+use Rattle.std.proofs.Common.{◌≡◌, ◌<◌, arith, ap, sym, ◌∙◌, length, get_or}
 use Rattle.std.proofs.lemmas.List.{get_or_default}
 use Rattle.std.specs.Ordering.{is_lt}
-use Rattle.arc_core.specs.declared.trees.Elem.{Elem}
 use Rattle.arc_core.specs.TreeContents.{is_below}
 use Rattle.btree_nodes.proofs.SearchLemmas.{below_down, not_below_up, count_front}
 use Rattle.btree_nodes.proofs.search.number_below.Goals as goal
@@ -18,14 +17,14 @@ loop-low-preserved c =
     let within : m < length elements = omega (arith, between, i.within) in
     let answer : c.is_lt.result ≡ is_below bkey (get_or elements m x) = c.is_lt.ensures ∙ ap is_lt c.cmp.ensures in
     elim c.if-is_lt.branch [
-      then-is_lt w ↦ rw (w.low-is, w.high-is) (record {
+      | then-is_lt w ↦ rw (w.low-is, w.high-is) (record {
         order = omega (arith, between);
         within = i.within;
         middle = λ more. (omega (arith, more), omega (arith, more));
         before = λ k d below. below_down bkey elements k m d c.requires (omega (arith, below)) within (ap (is_below bkey) (get_or_default elements m d x within) ∙ (sym answer ∙ w.if-is_lt.true));
         behind = i.behind;
       })
-    | else-is_lt w ↦ rw (w.low-is, w.high-is) (record {
+      | else-is_lt w ↦ rw (w.low-is, w.high-is) (record {
         order = omega (arith, between);
         within = omega (arith, between, i.within);
         middle = λ more. (omega (arith, more), omega (arith, more));

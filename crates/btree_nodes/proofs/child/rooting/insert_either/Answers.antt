@@ -1,5 +1,4 @@
-use Rattle.std.proofs.Common.{arith, ◌≡◌, ◌-◌, ◌++◌, ◌∙◌, ap, sym, refl, length}
-use Rattle.std.specs.List.{insert}
+use Rattle.std.proofs.Common.{arith, ◌++◌, ◌∙◌, ap, sym, refl}
 use Rattle.std.proofs.lemmas.List.Edits.{insert-append_right}
 use Rattle.btree_nodes.proofs.child.rooting.insert_either.Goals as goal
 

@@ -14,6 +14,6 @@ returns-then-len-eq1-clause-trimmed c =
     let run = c.trim_below-run.result in
     let is = only_one kids.items c.pop.new.self.items only (rw c.unwrap-only.ensures at c.pop.ensures.items) (omega arith) in
     let fell = fallen (branch_of old.items (vec_capacity old)) only kids.items (vec_capacity kids) c.args.place c.args.most run is c.trim_below-run.ensures.trimmed c.trim_below-run.ensures.branch
-      (c.trim_below-run.ensures.alone (omega arith)) in
+    (c.trim_below-run.ensures.alone (omega arith)) in
     subst (λ (node : Node). IsTrimmedRoot (subtree_of node) c.args.place c.args.most (subtree_of c.only.inside.node) run) (sym c.in-Branch.is)
     (subst (λ (new : Subtree). IsTrimmedRoot (branch_of old.items (vec_capacity old)) c.args.place c.args.most new run) (sym c.only.view_is) fell)
