@@ -15,7 +15,7 @@ mod replacing;
 mod rooting;
 mod splitting;
 
-pub(crate) use finding::child_at;
+pub use finding::child_at;
 pub(crate) use making::count_below;
 
 /// A node with all that is below it.
