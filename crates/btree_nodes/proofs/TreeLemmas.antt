@@ -16,7 +16,7 @@ use Rattle.arc_core.specs.declared.trees.Elem.{Elem}
 use Rattle.arc_core.specs.BkeyOrder.{bkey_cmp, are_of_one_kind}
 use Rattle.arc_core.specs.BkeyLaws.{bkey_cmp_total}
 use Rattle.arc_core.specs.TreeContents.{MayPrecede, IsRising, is_below, place_of}
-use Rattle.btree_nodes.specs.Ways.{has_bkey}
+use Rattle.btree_nodes.specs.Ways.{FitsKind, has_bkey}
 use Rattle.btree_nodes.specs.Subtree.{Subtree, IsDense}
 use Rattle.btree_nodes.specs.TreeRules.{IsRoot, is_ready, has_place, has_nodes}
 use Rattle.btree_nodes.specs.Rooting.{IsTrimmedRoot}
@@ -233,3 +233,20 @@ fits_by n others ready = grind (arith, nat_tests)
 -- a tree that has room has fewer than 2^32 - 1 elements
 pub ready_fits : (root : Subtree) (spare : Spare) → 1 ≤ cond (is_ready root spare) 1 0 → length root.elements < 4294967295
 ready_fits root spare ready = fits_by (length root.elements) (has_place root || has_nodes root spare) ready
+
+kind_joined : (x y z : Bkey) → are_of_one_kind x y ≡ true → are_of_one_kind x z ≡ true → are_of_one_kind y z ≡ true
+kind_joined (Number a) (Number b) (Number c) p q = refl
+kind_joined (Number a) (Number b) (Bytes c) p q = cc q
+kind_joined (Number a) (Bytes b) z p q = cc p
+kind_joined (Bytes a) (Number b) z p q = cc p
+kind_joined (Bytes a) (Bytes b) (Number c) p q = cc q
+kind_joined (Bytes a) (Bytes b) (Bytes c) p q = refl
+
+kind_at : (bkey : Bkey) (elements : List Elem) (k : ℕ) (d : Elem) → IsRising elements → FitsKind bkey elements → k < length elements → (0 ≡ k) ⊎ (0 ≡ k → ⊥) → are_of_one_kind (get_or elements k d).bkey bkey ≡ true
+kind_at bkey elements k d rising fits within (inl same) = ap (λ n. are_of_one_kind (get_or elements n d).bkey bkey) (sym same) ∙ fits d (omega arith)
+kind_at bkey elements k d rising fits within (inr other) =
+    kind_joined (get_or elements 0 d).bkey (get_or elements k d).bkey bkey (rising 0 k d (omega arith) within).of_one_kind (fits d (omega arith))
+
+-- all elements are of the first one's kind
+pub kind_of_all : (bkey : Bkey) (elements : List Elem) → IsRising elements → FitsKind bkey elements → All (λ other. are_of_one_kind other.bkey bkey ≡ true) elements
+kind_of_all bkey elements rising fits k d within = kind_at bkey elements k d rising fits within (cases_eq 0 k)

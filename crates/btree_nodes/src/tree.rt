@@ -7,7 +7,7 @@ ghost use Rattle.arc_core.specs.TreeContents.{IsRising, elem_sizes, place_of};
 ghost use Rattle.btree_nodes.specs.Contents.{MayBeHigh};
 ghost use Rattle.btree_nodes.specs.PartRules.{elements_of, entered_elements, entered_height, height_of, IsPart};
 ghost use Rattle.btree_nodes.specs.Removal.{IsRun};
-ghost use Rattle.btree_nodes.specs.Ways.{has_bkey};
+ghost use Rattle.btree_nodes.specs.Ways.{FitsKind, has_bkey};
 
 use crate::child::{Child, Part};
 use crate::runs::Run;
@@ -103,7 +103,7 @@ impl Tree {
     pub fn insert_spare(&mut self, elem: Elem)
         requires spare { 1 ≤ self.old.spare }
         requires absent { has_bkey elem.bkey self.old.elements ≡ false }
-        requires kind { All (λ other. are_of_one_kind other.bkey elem.bkey ≡ true) self.old.elements }
+        requires kind { FitsKind elem.bkey self.old.elements }
         ensures elements { self.new.elements ≡ insert self.old.elements (place_of elem.bkey self.old.elements) elem }
     {
         let place = self.place_of(&elem.bkey);
@@ -114,7 +114,7 @@ impl Tree {
     pub fn insert_spare_at(&mut self, place: u32, elem: Elem)
         requires spare { 1 ≤ self.old.spare }
         requires absent { has_bkey elem.bkey self.old.elements ≡ false }
-        requires kind { All (λ other. are_of_one_kind other.bkey elem.bkey ≡ true) self.old.elements }
+        requires kind { FitsKind elem.bkey self.old.elements }
         requires place { place ≡ place_of elem.bkey self.old.elements }
         ensures elements { self.new.elements ≡ insert self.old.elements place elem }
     {
