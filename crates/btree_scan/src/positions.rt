@@ -33,6 +33,7 @@ fn is_at(elements: &[Elem], place: usize, bkey: &Bkey) -> bool
 /// Where a bkey stands. Enters as many nodes as the tree is high, and takes no memory.
 pub fn position_of<L: Ledger>(tree: &Tree, bkey: &Bkey, steps: &mut Steps<L>) -> Position
     ensures position { result ≡ position_in bkey.now tree.now.elements }
+    ensures rising { IsRising tree.now.elements }
     ensures steps { steps.new ≡ steps.old + tree.now.height }
     ensures high { MayBeHigh (length tree.now.elements) tree.now.height }
 {
