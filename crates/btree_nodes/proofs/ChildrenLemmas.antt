@@ -1,9 +1,9 @@
 -- The elements below some children, by a child among them.
-use Rattle.std.proofs.Common.{◌≡◌, ℕ, ◌+◌, ◌*◌, ◌<◌, ◌≤◌, List, [], ◌∷◌, ◌++◌, length, get_or, take, drop, set, refl, ap, sym, ◌∙◌, subst, arith}
-use Rattle.std.specs.List.{All, insert, remove_range}
-use Rattle.std.proofs.lemmas.List.{take_more, drop_more, take-append-drop, length-append, append_assoc, append-nil, get_or_append_left, length-set, take-set, take_more_set, drop-set-lt, get_or-set_same}
+use Rattle.std.proofs.Common.{◌≡◌, ℕ, zero, suc, ◌+◌, ◌<◌, ◌≤◌, List, [], ◌∷◌, ◌++◌, length, get_or, take, drop, set, refl, ap, sym, ◌∙◌, subst, arith}
+use Rattle.std.specs.List.{All}
+use Rattle.std.proofs.lemmas.List.{take_more, drop_more, take-append-drop, length-append, append-nil, get_or_append_left, length-set, take-set, drop-set-lt, get_or-set_same}
 use Rattle.std.proofs.lemmas.List.Concat.{flat_map-append}
-use Rattle.std.proofs.lemmas.List.Elements.{All-head, All-tail, All-set}
+use Rattle.std.proofs.lemmas.List.Elements.{All-head, All-set}
 use Rattle.arc_core.specs.declared.trees.Elem.{Elem}
 use Rattle.arc_core.specs.declared.bkeys.Bkey.{Bkey}
 use Rattle.btree_nodes.specs.Subtree.{Subtree, all_elements, height_over, IsBranch, IsChildAt, IsDense}
@@ -97,3 +97,14 @@ child_set children room i old other is_branch within old_is same wide roomy dens
       height = height_of_children (height_over children) (set children i other) (omega (arith, is_branch.some)) all;
       elements = set_elements children i other within;
     }
+
+-- a child as high as the one whose place it takes leaves the height
+pub height_set : (children : List Subtree) (i : ℕ) (old other : Subtree) → i < length children → old ≡ get_or children i old → other.height ≡ old.height → height_over (set children i other) ≡ height_over children
+height_set [] i old other within is same = refl
+height_set (child ∷ others) zero old other within is same = ap (λ h. h + 1) (same ∙ ap (λ (x : Subtree). x.height) is)
+height_set (child ∷ others) (suc i) old other within is same = refl
+
+-- the elements below some children are those below a front and those below the others
+pub front_and_rest : (children : List Subtree) (i : ℕ) → length (all_elements (take i children)) + length (all_elements (drop i children)) ≡ length (all_elements children)
+front_and_rest children i =
+    omega (arith, ap (λ ys. length (all_elements ys)) (take-append-drop i children), ap length (all_append (take i children) (drop i children)), length-append (all_elements (take i children)) (all_elements (drop i children)))

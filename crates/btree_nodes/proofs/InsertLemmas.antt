@@ -1,7 +1,7 @@
 -- Where an insert goes on after a split, and what it leaves of a branch.
 use Rattle.std.proofs.Common.{◌≡◌, ℕ, ◌+◌, ◌-◌, ◌<◌, ◌≤◌, List, [], ◌∷◌, ◌++◌, length, get_or, take, drop, set, refl, ap, sym, ◌∙◌, subst, arith}
-use Rattle.std.specs.List.{All, insert}
-use Rattle.std.proofs.lemmas.List.{append_assoc, length-append, length-take, length-take-le, take_at, get_or_at, get_or-set_same, length-set}
+use Rattle.std.specs.List.{insert}
+use Rattle.std.proofs.lemmas.List.{append_assoc, length-append, length-take-le, take_at, get_or_at, get_or-set_same, length-set}
 use Rattle.std.proofs.lemmas.List.Edits.{insert-append_left, insert-append_right, get_or-insert_below}
 use Rattle.arc_core.specs.declared.bkeys.Bkey.{Bkey}
 use Rattle.arc_core.specs.declared.trees.Elem.{Elem}
@@ -39,8 +39,8 @@ second_of_split children new i offset count old one two count_is split within wi
     let front_len : length front ≡ i + 1 = omega (arith, length-append (take i children) (one ∷ [])) in
     let there : (d : Subtree) → get_or new (i + 1) d ≡ two = λ d. ap (λ ys. get_or ys (i + 1) d) is ∙ get_or_at front two (drop (i + 1) children) d (i + 1) front_len in
     let counts : length (all_elements (take (i + 1) new)) ≡ length (all_elements (take i children)) + length one.elements =
-      ap (λ ys. length (all_elements ys)) (ap (λ ys. take (i + 1) ys) is ∙ take_at front (two ∷ drop (i + 1) children) (i + 1) front_len)
-      ∙ (ap length (all_append (take i children) (one ∷ []) ∙ ap (λ ys. all_elements (take i children) ++ ys) (all_one one)) ∙ length-append (all_elements (take i children)) one.elements) in
+    ap (λ ys. length (all_elements ys)) (ap (λ ys. take (i + 1) ys) is ∙ take_at front (two ∷ drop (i + 1) children) (i + 1) front_len)
+    ∙ (ap length (all_append (take i children) (one ∷ []) ∙ ap (λ ys. all_elements (take i children) ++ ys) (all_one one)) ∙ length-append (all_elements (take i children)) one.elements) in
     let both = ap length elements ∙ length-append one.elements two.elements in
     record {
       elements = split.elements;
@@ -77,14 +77,16 @@ grown_over children room_made room room' place index offset index' offset' elem 
     let split : all_elements room_made ≡ A ++ (old.elements ++ R) = all_split room_made index' old made.within ∙ ap (λ (x : Subtree). A ++ (x.elements ++ R)) (sym old_is) in
     let within : offset' ≤ length old.elements = subst (λ (x : Subtree). offset' ≤ length x.elements) (sym old_is) (made.below old) in
     let there : place ≡ length A + offset' = place_is ∙ sym made.place in
-    let is = set_is.elements ∙ (ap (λ ys. A ++ (ys ++ R)) is_grown.elements ∙ (sym (insert_middle A old.elements R offset' elem within) ∙ (ap (λ ys. insert ys (length A + offset') elem) (sym split ∙ made.elements) ∙ ap (λ k. insert (all_elements children) k elem) (sym there)))) in
-    (record {
-      elements = is;
-      height = set_is.height ∙ made.height;
-      width = omega (arith, made.length_is, length-set room_made index' grown);
-      room = rooms;
-      dense = branch_dense (set room_made index' grown) room' (height_over (set room_made index' grown)) set_is.branch.balanced refl;
-    }, set_is.branch)
+    let is = set_is.elements ∙ (ap (λ ys. A ++ (ys ++ R)) is_grown.elements ∙ (sym (insert_middle A old.elements R offset' elem within) ∙ (ap (λ ys. insert ys (length A + offset') elem) (sym split ∙ made.elements) ∙ ap (λ k. insert (all_elements children) k elem) (sym there)))) in (
+      record {
+        elements = is;
+        height = set_is.height ∙ made.height;
+        width = omega (arith, made.length_is, length-set room_made index' grown);
+        room = rooms;
+        dense = branch_dense (set room_made index' grown) room' (height_over (set room_made index' grown)) set_is.branch.balanced refl;
+      },
+      set_is.branch,
+    )
 
 -- the least bkey after an insert: the new one where it stands first
 pub least_inserted_first : (elem : Elem) (elements : List Elem) (place : ℕ) → place ≡ 0 → IsLeast elem.bkey (insert elements place elem)

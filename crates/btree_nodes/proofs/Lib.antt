@@ -8,3 +8,6 @@ pub mod RunLemmas
 pub mod PairLemmas
 pub mod MendLemmas
 pub mod TrimLemmas
+pub mod SearchLemmas
+pub mod WayLemmas
+pub mod TreeLemmas

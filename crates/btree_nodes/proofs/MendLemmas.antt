@@ -1,14 +1,13 @@
 -- Two neighbours that are taken out of a branch, and what is put back in their place.
-use Rattle.std.proofs.Common.{◌≡◌, ◌≢◌, ℕ, suc, ◌+◌, ◌-◌, ◌<◌, ◌≤◌, List, [], ◌∷◌, ◌++◌, length, get_or, take, drop, Option, Some, None, refl, ap, sym, ◌∙◌, subst, arith}
-use Rattle.std.specs.List.{All, remove, insert}
+use Rattle.std.proofs.Common.{◌≡◌, ◌≢◌, ℕ, suc, ◌+◌, ◌-◌, ◌<◌, ◌≤◌, List, [], ◌∷◌, ◌++◌, length, get_or, take, drop, Option, Some, None, ap, sym, ◌∙◌, subst, arith}
+use Rattle.std.specs.List.{All, remove}
 use Rattle.std.specs.Option.{option_to_list}
-use Rattle.std.proofs.lemmas.List.{append_assoc, append-nil, length-append, length-take, length-take-le, length-drop, take-append-drop, drop_more, take_at, drop_at, drop-drop, get_or-take, get_or-drop, get_or-append_right}
+use Rattle.std.proofs.lemmas.List.{append_assoc, append-nil, length-append, length-take-le, length-drop, take-append-drop, drop_more, take_at, drop_at, drop-drop, get_or-take, get_or-drop, get_or-append_right, get_or_at}
 use Rattle.std.proofs.lemmas.List.Elements.{All-append, All-cons, All-nil}
 use Rattle.std.proofs.Math.Seq.{drop-append-add}
-use Rattle.arc_core.specs.declared.trees.Elem.{Elem}
-use Rattle.btree_nodes.specs.Subtree.{Subtree, all_elements, height_over, branch_of, IsBranch, IsChildAt}
-use Rattle.btree_nodes.specs.Removal.{IsLooseAt, IsLooseBranch, IsPaired, IsMended}
-use Rattle.btree_nodes.proofs.ChildrenLemmas.{all_append, all_one, branch_from, height_of_children}
+use Rattle.btree_nodes.specs.Subtree.{Subtree, all_elements, height_over, IsChildAt}
+use Rattle.btree_nodes.specs.Removal.{IsLooseBranch, IsPaired, IsMended}
+use Rattle.btree_nodes.proofs.ChildrenLemmas.{all_append, branch_from, height_of_children}
 
 -- What is left of a list, of which a and b stood at the places p and p + 1.
 pub record AreOut {X : Type 0} (xs rest : List X) (p : ℕ) (a b : X) : Type 0 where
@@ -37,12 +36,17 @@ out xs one two p a b within a_is one_is b_is two_is =
 
 -- the elements of two neighbours in what is put back for them, one node or two
 pub paired_elements : (height : ℕ) (a b first : Subtree) (second : Option Subtree) → IsPaired height a b first second → all_elements (first ∷ option_to_list second) ≡ a.elements ++ b.elements
-paired_elements height a b first None paired = append-nil first.elements ∙ paired.1
+paired_elements height a b first None paired = append-nil first.elements ∙ paired.2
 paired_elements height a b first (Some second) paired = ap (λ ys. first.elements ++ ys) (append-nil second.elements) ∙ paired.2
 
 pub paired_all : (height : ℕ) (a b first : Subtree) (second : Option Subtree) → IsPaired height a b first second → All (IsChildAt height) (first ∷ option_to_list second)
 paired_all height a b first None paired = All-cons (IsChildAt height) first [] paired.0 (All-nil (IsChildAt height))
 paired_all height a b first (Some second) paired = All-cons (IsChildAt height) first (second ∷ []) paired.0 (All-cons (IsChildAt height) second [] paired.1 (All-nil (IsChildAt height)))
+
+-- where nothing else is there, one node was made of the two
+pub paired_alone : (height : ℕ) (a b first : Subtree) (second : Option Subtree) → IsPaired height a b first second → length (option_to_list second) ≡ 0 → first.width < 32
+paired_alone height a b first None paired none = paired.1
+paired_alone height a b first (Some second) paired none = absurd (omega arith)
 
 pub paired_count : (second : Option Subtree) → length (option_to_list second) ≤ 1
 paired_count None = omega arith
@@ -90,4 +94,6 @@ mended children rest new room room' index p a b first second loose rooms within 
       elements = ap all_elements is ∙ (all_append A (M ++ B) ∙ (ap (λ ys. all_elements A ++ ys) (all_append M B ∙ ap (λ ys. ys ++ all_elements B) (paired_elements (height_over children) a b first second paired)) ∙ sym (around children rest p a b are_out)));
       height = height_of_children (height_over children) new (omega (arith, new_length)) all;
       length_is = omega (arith, new_length, count);
+      alone = λ one d. subst (λ (x : Subtree). x.width < 32) (sym (ap (λ ys. get_or ys 0 d) is ∙ get_or_at A first (option_to_list second ++ B) d 0 (omega (arith, len, one, new_length, within))))
+          (paired_alone (height_over children) a b first second paired (omega (arith, one, new_length, within)));
     }

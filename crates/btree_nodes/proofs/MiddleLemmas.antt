@@ -1,7 +1,7 @@
 -- Parts of a list between others.
-use Rattle.std.proofs.Common.{◌≡◌, ℕ, ◌+◌, ◌-◌, ◌<◌, ◌≤◌, List, [], ◌∷◌, ◌++◌, length, get_or, take, drop, refl, ap, sym, ◌∙◌, subst, arith}
-use Rattle.std.specs.List.{remove, remove_range, between}
-use Rattle.std.proofs.lemmas.List.{append_assoc, length-append, take-append-le, drop-append-le, take_at, drop_at, drop-drop, get_or_append_left, get_or-append-add, length-take-le, length-drop}
+use Rattle.std.proofs.Common.{◌≡◌, ℕ, ◌+◌, ◌-◌, ◌<◌, ◌≤◌, List, ◌++◌, length, get_or, take, drop, set, refl, ap, sym, ◌∙◌, arith}
+use Rattle.std.specs.List.{remove_range, between}
+use Rattle.std.proofs.lemmas.List.{append_assoc, take-append-le, drop-append-le, drop_at, drop-drop, get_or_append_left, get_or-append-add, length-drop, set-append_left, set-append_right}
 use Rattle.std.proofs.Math.Seq.{take-append-add}
 
 module _ {X : Type 0} where
@@ -25,3 +25,9 @@ module _ {X : Type 0} where
   between_middle A M R o e order within =
       ap (λ k. take k (drop (length A + o) (A ++ (M ++ R)))) (omega arith)
       ∙ (ap (λ ys. take (e - o) ys) (drop_middle A M R o (omega arith)) ∙ take-append-le (e - o) (drop o M) R (omega (arith, length-drop o M)))
+
+  -- another item in a place in the middle
+  pub set_middle : (A M R : List X) (o : ℕ) (x : X) → o < length M → set (A ++ (M ++ R)) (length A + o) x ≡ A ++ (set M o x ++ R)
+  set_middle A M R o x within =
+      let none : length A + o - length A ≡ o = omega arith in
+      set-append_right A (M ++ R) (length A) (length A + o) x refl (omega arith) ∙ ap (λ ys. A ++ ys) (ap (λ k. set (M ++ R) k x) none ∙ set-append_left M R o x within)

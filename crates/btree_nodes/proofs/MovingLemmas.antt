@@ -1,5 +1,5 @@
 -- Moving elements from the end of one list to the end of another, and the reverses around it.
-use Rattle.std.proofs.Common.{◌≡◌, ℕ, ◌+◌, ◌-◌, ◌<◌, ◌≤◌, List, [], ◌∷◌, ◌++◌, length, get_or, take, drop, reverse, refl, ap, sym, ◌∙◌, arith, append_assoc}
+use Rattle.std.proofs.Common.{◌≡◌, ℕ, ◌+◌, ◌-◌, ◌<◌, ◌≤◌, List, [], ◌∷◌, ◌++◌, length, get_or, take, drop, reverse, ap, sym, ◌∙◌, arith, append_assoc}
 use Rattle.std.proofs.lemmas.List.{take_more, drop_more, same_from_push, reverse-append, reverse-reverse, take-append-drop, take_at, drop_at, length-reverse, length-drop}
 
 -- x was taken from the end of what is left of xs and put behind the others that were taken

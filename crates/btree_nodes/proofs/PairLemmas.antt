@@ -1,12 +1,10 @@
 -- The children of two neighbours.
-use Rattle.std.proofs.Common.{◌≡◌, ℕ, ◌+◌, ◌-◌, ◌<◌, ◌≤◌, ◌^◌, List, [], ◌∷◌, ◌++◌, length, refl, ap, sym, ◌∙◌, subst, arith}
+use Rattle.std.proofs.Common.{◌≡◌, ℕ, ◌+◌, ◌≤◌, List, ◌++◌, length, refl, ap, sym, ◌∙◌, subst, arith}
 use Rattle.std.specs.List.{All}
-use Rattle.std.proofs.lemmas.List.{length-append}
 use Rattle.std.proofs.lemmas.List.Elements.{All-append}
 use Rattle.btree_nodes.specs.Subtree.{Subtree, all_elements, branch_of, height_over, IsBranch, IsChildAt}
 use Rattle.btree_nodes.proofs.BalanceLemmas.{branch_dense}
 use Rattle.btree_nodes.proofs.ChildrenLemmas.{all_append, branch_from, branch_high, height_of_children}
-use Rattle.btree_nodes.proofs.RunLemmas.{all_front, all_behind}
 
 -- all children of both are of one height
 pub all_of_both : (left right : List Subtree) (room room' : ℕ) → IsBranch left room → IsBranch right room' → height_over left ≡ height_over right → All (IsChildAt (height_over left)) (left ++ right)

@@ -1,7 +1,7 @@
 -- A run that is cut out of a list.
-use Rattle.std.proofs.Common.{◌≡◌, ℕ, suc, ◌+◌, ◌-◌, ◌/◌, ◌<◌, ◌≤◌, List, [], ◌∷◌, ◌++◌, length, get_or, take, drop, refl, ap, sym, ◌∙◌, subst, arith}
-use Rattle.std.specs.List.{All, remove, remove_range}
-use Rattle.std.proofs.lemmas.List.{append_assoc, length-append, take_at, drop_at, drop-drop, length-take-le, get_or-append_right, get_or-drop, take-append-drop, length-drop}
+use Rattle.std.proofs.Common.{◌≡◌, ℕ, suc, ◌+◌, ◌-◌, ◌/◌, ◌<◌, ◌≤◌, List, ◌++◌, length, get_or, take, drop, refl, ap, sym, ◌∙◌, subst, arith}
+use Rattle.std.specs.List.{All, between, remove, remove_range}
+use Rattle.std.proofs.lemmas.List.{append_assoc, length-append, take_at, drop_at, drop-drop, length-take-le, get_or-append_right, get_or-drop, take-append-drop, take-take, drop-take, length-drop}
 use Rattle.std.proofs.lemmas.List.Elements.{All-take, All-drop}
 use Rattle.std.proofs.Math.Seq.{drop-append-add}
 
@@ -33,7 +33,7 @@ pub record IsShifted {X : Type 0} (left right xs ys : List X) : Type 0 where
   pub second_least : 16 ≤ length ys
   pub second_most : length ys ≤ 32
 
-pub shifted : {X : Type 0} (left right xs ys : List X) (a b : ℕ) → a ≡ length left → b ≡ length right → a ≤ 32 → 16 ≤ a → b < 16 → 32 < a + b
+pub shifted : {X : Type 0} (left right xs ys : List X) (a b : ℕ) → a ≡ length left → b ≡ length right → a ≤ 32 → 16 ≤ a → b < 16 → 32 ≤ a + b
     → xs ≡ take (length left - (a - b) / 2) left → ys ≡ drop (length left - (a - b) / 2) left ++ right → IsShifted left right xs ys
 shifted left right xs ys a b a_is b_is most least short together xs_is ys_is =
     let n = length left - (a - b) / 2 in
@@ -46,3 +46,29 @@ shifted left right xs ys a b a_is b_is most least short together xs_is ys_is =
       second_least = omega arith;
       second_most = omega arith;
     }
+
+-- a run that is cut out where another one was
+pub removed_more : {X : Type 0} (xs : List X) (low m k : ℕ) → low ≤ m → m + k ≤ length xs → remove_range (remove_range xs low m) low (low + k) ≡ remove_range xs low (m + k)
+removed_more xs low m k order within =
+    let len = length-take-le low xs (omega arith) in
+    let behind : drop (low + k) (take low xs ++ drop m xs) ≡ drop (m + k) xs = ap (λ n. drop (n + k) (take low xs ++ drop m xs)) (sym len) ∙ (drop-append-add (take low xs) (drop m xs) k ∙ drop-drop k m xs) in
+    ap (λ ys. ys ++ drop (low + k) (take low xs ++ drop m xs)) (take_at (take low xs) (drop m xs) low len) ∙ ap (λ ys. take low xs ++ ys) behind
+
+-- is the run behind it
+pub between_more : {X : Type 0} (xs : List X) (low m k : ℕ) → low ≤ m → m + k ≤ length xs → between low (low + k) (remove_range xs low m) ≡ between m (m + k) xs
+between_more xs low m k order within =
+    let len = length-take-le low xs (omega arith) in
+    let one : low + k - low ≡ m + k - m = omega arith in
+    ap (λ ys. take (low + k - low) ys) (drop_at (take low xs) (drop m xs) low len) ∙ ap (λ n. take n (drop m xs)) one
+
+-- and both are one run
+pub between_both : {X : Type 0} (xs : List X) (low m k : ℕ) → low ≤ m → between low (m + k) xs ≡ between low m xs ++ between m (m + k) xs
+between_both xs low m k order =
+    let ys = drop low xs in
+    let a = m - low in
+    let n : m + k - low ≡ a + k = omega arith in
+    let one : m + k - m ≡ k = omega arith in
+    let there : low + a ≡ m = omega arith in
+    ap (λ n. take n ys) n ∙ (sym (take-append-drop a (take (a + k) ys))
+    ∙ (ap (λ zs. zs ++ drop a (take (a + k) ys)) (take-take a (a + k) ys (omega arith))
+    ∙ ap (λ zs. take a ys ++ zs) (drop-take a k ys ∙ (ap (λ zs. take k zs) (drop-drop a low xs ∙ ap (λ n. drop n xs) there) ∙ ap (λ n. take n (drop m xs)) (sym one)))))

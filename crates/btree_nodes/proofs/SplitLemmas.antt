@@ -1,5 +1,5 @@
 -- A full branch in two halves.
-use Rattle.std.proofs.Common.{◌≡◌, ℕ, ◌+◌, ◌-◌, ◌<◌, ◌≤◌, List, [], ◌∷◌, ◌++◌, length, get_or, take, drop, set, refl, ap, sym, ◌∙◌, subst, arith}
+use Rattle.std.proofs.Common.{◌≡◌, ℕ, ◌+◌, ◌-◌, ◌<◌, ◌≤◌, List, [], ◌∷◌, ◌++◌, length, get_or, take, drop, set, ap, sym, ◌∙◌, subst, arith}
 use Rattle.std.specs.List.{All, insert}
 use Rattle.std.proofs.lemmas.List.{take-append-drop, append-nil, append_assoc, length-append, length-take, length-drop, take_more_set, drop-set-lt}
 use Rattle.std.proofs.lemmas.List.Elements.{All-take, All-drop, All-append, All-cons}
@@ -66,7 +66,7 @@ split_in children new i room old first second is_branch within old_is split new_
     let first_child : P first = record { level = omega (arith, split.first_height, is_child.level); high = omega (arith, split.first_height, is_child.high); wide = omega (arith, split.first_width); roomy = omega (arith, split.first_room, is_child.roomy); dense = split.first_dense } in
     let second_child : P second = record { level = omega (arith, split.second_height, is_child.level); high = omega (arith, split.second_height, is_child.high); wide = omega (arith, split.second_width); roomy = split.second_room; dense = split.second_dense } in
     let all : All P new = subst (All P) (sym is) (All-append P (take i children) (first ∷ (second ∷ drop (i + 1) children)) (All-take P i children is_branch.balanced)
-      (All-cons P first (second ∷ drop (i + 1) children) first_child (All-cons P second (drop (i + 1) children) second_child (All-drop P (i + 1) children is_branch.balanced)))) in
+    (All-cons P first (second ∷ drop (i + 1) children) first_child (All-cons P second (drop (i + 1) children) second_child (All-drop P (i + 1) children is_branch.balanced)))) in
     let new_length : length new ≡ length children + 1 = omega (arith, ap length is, length-append (take i children) (first ∷ (second ∷ drop (i + 1) children)), length-take i children, length-drop (i + 1) children) in
     let A = all_elements (take i children) in
     let R = all_elements (drop (i + 1) children) in

@@ -1,14 +1,15 @@
 -- What a run that is removed below a child leaves of the branch over it.
-use Rattle.std.proofs.Common.{◌≡◌, ◌≢◌, ℕ, ◌+◌, ◌-◌, ◌%◌, ◌^◌, ◌<◌, ◌≤◌, List, [], ◌∷◌, ◌++◌, length, get_or, take, drop, set, refl, ap, sym, ◌∙◌, subst, arith}
+use Rattle.std.proofs.Common.{◌≡◌, ℕ, ◌+◌, ◌-◌, ◌%◌, ◌^◌, ◌<◌, ◌≤◌, List, [], ◌∷◌, ◌++◌, length, get_or, take, drop, set, refl, ap, sym, ◌∙◌, subst, inr, arith}
 use Rattle.std.specs.List.{All, between, remove_range}
-use Rattle.std.proofs.lemmas.List.{length-append, length-set, get_or-set_other, get_or_append_left, length-take-le, take-append-drop, length-take, length-drop}
-use Rattle.std.proofs.lemmas.List.Elements.{All-set, All-weaker, All-head}
+use Rattle.std.proofs.lemmas.List.{length-append, length-set, get_or-set_other, get_or_append_left, length-take-le, take-append-drop, length-take, length-drop, append-nil, nil_from_length}
+use Rattle.std.proofs.lemmas.List.Elements.{All-set, All-head}
 use Rattle.arc_core.specs.declared.bkeys.Bkey.{Bkey}
 use Rattle.arc_core.specs.declared.trees.Elem.{Elem}
 use Rattle.arc_core.specs.TreeContents.{elem_sizes}
 use Rattle.btree_nodes.specs.declared.runs.Run.{Run}
 use Rattle.btree_nodes.specs.Subtree.{Subtree, all_elements, branch_of, height_over, IsBranch, IsChildAt}
 use Rattle.btree_nodes.specs.NodeRules.{IsLeast}
+use Rattle.btree_nodes.specs.Rooting.{IsTrimmedRoot}
 use Rattle.btree_nodes.specs.Removal.{IsRun, IsTrimmed, IsLooseAt, IsLooseBranch, IsMended}
 use Rattle.btree_nodes.proofs.BalanceLemmas.{branch_dense}
 use Rattle.btree_nodes.proofs.ChildrenLemmas.{all_split, set_elements}
@@ -42,15 +43,17 @@ loosened children room i o limit old new run is_branch two within old_is trimmed
     let loose : IsLooseAt H new = record { level = omega (arith, was.level, trimmed.height); high = omega (arith, was.high, trimmed.height); roomy = omega (arith, was.roomy, trimmed.room); dense = trimmed.dense } in
     let all = All-set (IsLooseAt H) children i new loose (λ k d below. let l = is_branch.balanced k d below in record { level = l.level; high = l.high; roomy = l.roomy; dense = l.dense }) in
     let len = length-set children i new in
-    let same = height_of_loose H (set children i new) (omega (arith, two)) all in
-    (record {
-      two = omega (arith, two);
-      most = omega (arith, is_branch.most);
-      roomy = is_branch.roomy;
-      within = omega (arith, within);
-      balanced = subst (λ level. All (IsLooseAt level) (set children i new)) (sym same) all;
-      wide = λ k d below other. subst (λ (x : Subtree). 16 ≤ x.width) (sym (get_or-set_other children i k new d other)) (is_branch.balanced k d (omega (arith, below))).wide;
-    }, same)
+    let same = height_of_loose H (set children i new) (omega (arith, two)) all in (
+      record {
+        two = omega (arith, two);
+        most = omega (arith, is_branch.most);
+        roomy = is_branch.roomy;
+        within = omega (arith, within);
+        balanced = subst (λ level. All (IsLooseAt level) (set children i new)) (sym same) all;
+        wide = λ k d below other. subst (λ (x : Subtree). 16 ≤ x.width) (sym (get_or-set_other children i k new d other)) (is_branch.balanced k d (omega (arith, below))).wide;
+      },
+      same,
+    )
 
 -- no more elements are left than there were
 pub trimmed_fits : (children : List Subtree) (i o limit : ℕ) (old new : Subtree) (run : Run) → i < length children → old ≡ get_or children i old → IsTrimmed old o limit new run
@@ -91,3 +94,22 @@ least_kept bkey elements low high behind order within least d some =
     let front : get_or (take low elements ++ drop high elements) 0 d ≡ get_or (take low elements) 0 d = get_or_append_left (take low elements) (drop high elements) d 0 (omega arith) in
     let whole : get_or elements 0 d ≡ get_or (take low elements) 0 d = ap (λ ys. get_or ys 0 d) (sym (take-append-drop low elements)) ∙ get_or_append_left (take low elements) (drop low elements) d 0 (omega arith) in
     least d (omega arith) ∙ ap (λ (x : Elem). x.bkey) (whole ∙ sym front)
+
+-- what is left where one was taken from the end of a list of one
+pub only_one : {X : Type 0} (xs front : List X) (x : X) → xs ≡ front ++ x ∷ [] → length xs ≡ 1 → xs ≡ x ∷ []
+only_one xs front x is one =
+    is ∙ ap (λ ys. ys ++ x ∷ []) (nil_from_length front (omega (arith, ap length is, length-append front (x ∷ []))))
+
+-- the only child in the root's place
+pub fallen : (old only : Subtree) (children : List Subtree) (room place limit : ℕ) (run : Run) → children ≡ only ∷ [] → IsTrimmed old place limit (branch_of children room) run
+    → IsBranch children room → ((d : Subtree) → (get_or children 0 d).width < 32) → IsTrimmedRoot old place limit only run
+fallen old only children room place limit run is trimmed is_branch not_full =
+    let there : get_or children 0 only ≡ only = ap (λ ys. get_or ys 0 only) is in
+    let elements : all_elements children ≡ only.elements = ap all_elements is ∙ append-nil only.elements in
+    let height : height_over children ≡ only.height + 1 = ap height_over is in
+    let was = subst (IsChildAt (height_over children)) there (is_branch.balanced 0 only is_branch.some) in
+    record {
+      removed = subst (λ ys. IsRun old.elements place limit ys run) elements trimmed.removed;
+      level = inr (omega (arith, trimmed.height, height), was.high, was.wide, subst (λ (x : Subtree). x.width < 32) there (not_full only), was.roomy);
+      dense = was.dense;
+    }

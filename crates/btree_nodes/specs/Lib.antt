@@ -1,3 +1,4 @@
+pub mod Contents
 pub mod Empties
 pub mod FoundAt
 pub mod Growth
@@ -6,6 +7,10 @@ pub mod NodeFalls
 pub mod NodeRules
 pub mod PartRules
 pub mod Removal
+pub mod Replacing
+pub mod Rooting
 pub mod SpareNodes
 pub mod Splits
 pub mod Subtree
+pub mod TreeRules
+pub mod Ways

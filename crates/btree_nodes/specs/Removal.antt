@@ -46,8 +46,10 @@ pub record IsMended (old new : List Subtree) (room : ℕ) : Type 0 where
   pub elements : all_elements new ≡ all_elements old
   pub height : height_over new ≡ height_over old
   pub length_is : length new ≤ length old
+  -- one that is left alone is not full
+  pub alone : length new ≡ 1 → (d : Subtree) → (slice_index_or new 0 d).width < 32
 
 -- Two neighbours became one node or two, which keep the rules of a branch of this height.
 abbrev pub IsPaired : ℕ → Subtree → Subtree → Subtree → Option Subtree → Type 0
-IsPaired height left right first None = IsChildAt height first × (first.elements ≡ left.elements ++ right.elements)
+IsPaired height left right first None = IsChildAt height first × (first.width < 32) × (first.elements ≡ left.elements ++ right.elements)
 IsPaired height left right first (Some second) = IsChildAt height first × IsChildAt height second × (first.elements ++ second.elements ≡ left.elements ++ right.elements)

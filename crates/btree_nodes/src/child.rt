@@ -1,7 +1,7 @@
 //! Nodes, and what is kept beside them.
 ghost use Rattle.std.specs.Prelude.{◌≡◌, ◌≤◌, ◌<◌, length, slice_index_or};
 ghost use Rattle.arc_core.specs.declared.trees.Elem.{Elem};
-ghost use Rattle.btree_nodes.specs.PartRules.{IsPartOf};
+ghost use Rattle.btree_nodes.specs.PartRules.{elements_of, height_of, IsPart};
 
 use arc_core::{Bkey, Elem};
 use std::marker::Model;
@@ -11,9 +11,12 @@ mod insertion;
 mod making;
 mod pairing;
 mod removal;
+mod replacing;
+mod rooting;
 mod splitting;
 
-pub(crate) use finding::child_at;
+pub use finding::child_at;
+pub(crate) use making::count_below;
 
 /// A node with all that is below it.
 ///
@@ -76,7 +79,9 @@ impl Child {
 
     /// The node's elements or children.
     pub(crate) fn part(&self) -> Part<'_>
-        ensures { IsPartOf self.now.elements self.now.height result }
+        ensures elements { elements_of result ≡ self.now.elements }
+        ensures height { height_of result ≡ self.now.height }
+        ensures part { IsPart result }
     {
         match &self.node {
             Node::Leaf(elements) => Part::Leaf(elements),

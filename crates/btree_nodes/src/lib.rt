@@ -5,8 +5,12 @@
 mod child;
 mod moving;
 mod runs;
+mod search;
 mod spare;
 mod steps;
+mod tree;
 
-pub use child::{Child, Part};
+pub use child::{Child, Part, child_at};
+pub use search::{child_with, count_before, number_below};
 pub use steps::Steps;
+pub use tree::Tree;

@@ -1,5 +1,5 @@
 //! Empty nodes that are kept for splits.
-ghost use Rattle.std.specs.Prelude.{◌≡◌, ◌+◌, ◌≤◌, [], vec_capacity, OnOk, OnErr};
+ghost use Rattle.std.specs.Prelude.{◌≡◌, ◌+◌, ◌≤◌, ◌<◌, [], vec_capacity, OnOk, OnErr};
 
 use crate::child::Child;
 use arc_core::{Elem, NoMemory};
@@ -37,11 +37,9 @@ impl<T: Drop> Empties<T> {
         }
     }
 
-    /// How many there are.
-    pub(crate) fn count(&self) -> usize
-        ensures { result ≡ self.now }
-    {
-        self.vectors.len()
+    /// Where they take their memory from.
+    pub(crate) fn allocator(&self) -> Global {
+        *self.vectors.allocator()
     }
 
     /// Takes one away.
@@ -58,6 +56,7 @@ impl<T: Drop> Empties<T> {
     pub(crate) fn reserve(&mut self, number: usize) -> Result<(), NoMemory>
         ensures enough { OnOk result (number ≤ self.new) }
         ensures kept { self.old ≤ self.new }
+        ensures refused { OnErr result (self.old < number) }
     {
         let alloc = *self.vectors.allocator();
         for _made in self.vectors.len()..number {

@@ -7,7 +7,7 @@ use super::Child;
 
 /// Among children with `total` elements, the one below which a place lies, and the place below it. The place behind the
 /// last element lies below the last child.
-pub(crate) fn child_at(children: &[Child], total: usize, place: usize) -> (usize, usize)
+pub fn child_at(children: &[Child], total: usize, place: usize) -> (usize, usize)
     requires some { 1 ≤ length children.now }
     requires total { total ≡ length (all_elements children.now) }
     requires within { place ≤ total }

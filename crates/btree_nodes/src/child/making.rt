@@ -6,7 +6,7 @@ use super::{Child, Node};
 use arc_core::{Bkey, Elem};
 
 /// How many elements there are below these children.
-fn count_below(children: &[Child]) -> u32
+pub(crate) fn count_below(children: &[Child]) -> u32
     requires { length (all_elements children.now) < 2 ^ 32 }
     ensures { result ≡ length (all_elements children.now) }
 {
@@ -19,7 +19,7 @@ fn count_below(children: &[Child]) -> u32
 
 impl Child {
     /// A leaf with these elements.
-    pub(super) fn of_leaf(elements: Vec<Elem>) -> Child
+    pub(crate) fn of_leaf(elements: Vec<Elem>) -> Child
         requires { length elements.items ≤ 32 }
         ensures elements { result.elements ≡ elements.items }
         ensures height { result.height ≡ 1 }
@@ -47,9 +47,10 @@ impl Child {
     }
 
     /// How many elements or children the node has itself.
-    pub(super) fn width(&self) -> usize
+    pub(crate) fn width(&self) -> usize
         ensures width { result ≡ self.now.width }
         ensures most { result ≤ 32 }
+        ensures room { result ≤ self.now.room }
     {
         match &self.node {
             Node::Leaf(elements) => elements.len(),

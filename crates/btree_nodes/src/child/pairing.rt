@@ -13,13 +13,13 @@ use crate::moving::{move_first, move_last};
 use crate::spare::MAX_WIDTH;
 use arc_core::Elem;
 
-/// Moves items between neighbours that are more than one node holds together, until each has enough. One that is short
+/// Moves items between neighbours that fill one node at least, until each has enough. One that is short
 /// takes from its right neighbour all that this one can do without, so that what is removed at the left end of a tree
 /// finds full nodes; else it takes half of what the left neighbour has more.
 fn level<T: Drop>(left: &mut Vec<T>, right: &mut Vec<T>)
     requires left_most { length left.old.items ≤ 32 }
     requires right_most { length right.old.items ≤ 32 }
-    requires together { 32 < length left.old.items + length right.old.items }
+    requires together { 32 ≤ length left.old.items + length right.old.items }
     requires left_room { 32 ≤ vec_capacity left.old }
     requires right_room { 32 ≤ vec_capacity right.old }
     ensures { IsLeveled left.old right.old left.new right.new }
@@ -33,7 +33,7 @@ fn level<T: Drop>(left: &mut Vec<T>, right: &mut Vec<T>)
     }
 }
 
-/// The elements of two neighbours in one leaf, or in two where they are too many.
+/// The elements of two neighbours in one leaf that is not full, or else in two.
 fn pair_leaves(mut left: Vec<Elem>, mut right: Vec<Elem>) -> (Child, Option<Child>)
     requires left_most { length left.items ≤ 32 }
     requires right_most { length right.items ≤ 32 }
@@ -42,7 +42,7 @@ fn pair_leaves(mut left: Vec<Elem>, mut right: Vec<Elem>) -> (Child, Option<Chil
     requires right_room { 32 ≤ vec_capacity right }
     ensures { IsPaired 2 (subtree_of (Leaf left)) (subtree_of (Leaf right)) result.0 result.1 }
 {
-    if left.len() + right.len() <= MAX_WIDTH {
+    if left.len() + right.len() < MAX_WIDTH {
         left.append(&mut right).unwrap();
         return (Child::of_leaf(left), None);
     }
@@ -50,7 +50,7 @@ fn pair_leaves(mut left: Vec<Elem>, mut right: Vec<Elem>) -> (Child, Option<Chil
     (Child::of_leaf(left), Some(Child::of_leaf(right)))
 }
 
-/// The children of two neighbours below one branch, or below two where they are too many.
+/// The children of two neighbours below one branch that is not full, or else below two.
 fn pair_branches(mut left: Vec<Child>, mut right: Vec<Child>) -> (Child, Option<Child>)
     requires left { IsBranch left.items (vec_capacity left) }
     requires right { IsBranch right.items (vec_capacity right) }
@@ -59,7 +59,7 @@ fn pair_branches(mut left: Vec<Child>, mut right: Vec<Child>) -> (Child, Option<
     requires fits { length (all_elements left.items) + length (all_elements right.items) < 2 ^ 32 }
     ensures { IsPaired (height_over left.items + 1) (branch_of left.items (vec_capacity left)) (branch_of right.items (vec_capacity right)) result.0 result.1 }
 {
-    if left.len() + right.len() <= MAX_WIDTH {
+    if left.len() + right.len() < MAX_WIDTH {
         left.append(&mut right).unwrap();
         return (Child::of_branch(left), None);
     }
@@ -67,7 +67,7 @@ fn pair_branches(mut left: Vec<Child>, mut right: Vec<Child>) -> (Child, Option<
     (Child::of_branch(left), Some(Child::of_branch(right)))
 }
 
-/// Two neighbours in one node, or in two where they have too much for one.
+/// Two neighbours in one node that is not full, or else in two.
 fn pair(left: Child, right: Child) -> (Child, Option<Child>)
     requires left_room { 32 ≤ left.room }
     requires right_room { 32 ≤ right.room }

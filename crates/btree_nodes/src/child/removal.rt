@@ -1,6 +1,6 @@
 //! Removals of elements that stand next to each other.
-ghost use Rattle.std.specs.Prelude.{◌≡◌, ◌+◌, ◌^◌, ◌≤◌, ◌<◌, length, vec_capacity};
-ghost use Rattle.btree_nodes.specs.Subtree.{all_elements, branch_of, IsBranch};
+ghost use Rattle.std.specs.Prelude.{◌≡◌, ◌+◌, ◌^◌, ◌≤◌, ◌<◌, length, slice_index_or, vec_capacity};
+ghost use Rattle.btree_nodes.specs.Subtree.{Subtree, all_elements, branch_of, IsBranch};
 ghost use Rattle.btree_nodes.specs.NodeRules.{subtree_of, IsNode, IsLeast};
 ghost use Rattle.btree_nodes.specs.Removal.{IsTrimmed};
 
@@ -23,7 +23,7 @@ pub(super) fn least_of(node: &Node) -> Bkey
 /// Removes at least one and at most `most` elements from a place on among the `total` elements below some children, and
 /// mends these.
 #[cycle(trim)]
-fn trim_below(children: &mut Vec<Child>, total: usize, place: usize, most: usize) -> Run
+pub(super) fn trim_below(children: &mut Vec<Child>, total: usize, place: usize, most: usize) -> Run
     requires branch { IsBranch children.old.items (vec_capacity children.old) }
     requires two { 2 ≤ length children.old.items }
     requires total { total ≡ length (all_elements children.old.items) }
@@ -32,6 +32,7 @@ fn trim_below(children: &mut Vec<Child>, total: usize, place: usize, most: usize
     requires most { 1 ≤ most }
     ensures trimmed { IsTrimmed (branch_of children.old.items (vec_capacity children.old)) place most (branch_of children.new.items (vec_capacity children.new)) result }
     ensures branch { IsBranch children.new.items (vec_capacity children.new) }
+    ensures alone { length children.new.items ≡ 1 → (d : Subtree) → (slice_index_or children.new.items 0 d).width < 32 }
 {
     let (index, offset) = child_at(children, total, place);
     let run = children[index].trim(offset, most);

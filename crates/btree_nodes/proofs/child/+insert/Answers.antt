@@ -1,4 +1,4 @@
-use Rattle.std.proofs.Common.{rules, arith, ◌≡◌, ◌≤◌, ◌<◌, ◌∙◌, ap, sym, subst, length, take, ◌+◌, vec_capacity}
+use Rattle.std.proofs.Common.{arith, ◌≤◌, ◌<◌, ◌∙◌, ap, sym, subst, length, take, ◌+◌, vec_capacity}
 use Rattle.btree_nodes.specs.Subtree.{Subtree, all_elements, height_over, IsChildAt}
 use Rattle.btree_nodes.proofs.ChildrenLemmas.{one_le}
 use Rattle.btree_nodes.proofs.InsertLemmas.{grown_over}
@@ -21,7 +21,7 @@ insertion::insert_below-insert-requires t c =
 pub insertion::insert_below-returns-clause-grown : goal.insertion::insert_below-returns-clause-grown
 insertion::insert_below-returns-clause-grown t c =
     (grown_over c.args.children.now.items c.make_room-index.new.children.items (vec_capacity c.args.children.now) c.make_room-index.new.children.cap c.args.place
-      c.child_at-index.result.0 c.child_at-index.result.1 c.make_room-index.result.0 c.make_room-index.result.1 c.args.elem c.index_mut.result.now c.insert.new.self
-      c.make_room-index.ensures.room c.make_room-index.ensures.branch
-      (c.child_at-index.ensures.before ∙ ap (λ ys. length (all_elements (take c.child_at-index.result.0 ys)) + c.child_at-index.result.1) c.deref.ensures.value)
-      c.index_mut.ensures.value c.insert.ensures c.make_room-index.ensures.capacity).0
+    c.child_at-index.result.0 c.child_at-index.result.1 c.make_room-index.result.0 c.make_room-index.result.1 c.args.elem c.index_mut.result.now c.insert.new.self
+    c.make_room-index.ensures.room c.make_room-index.ensures.branch
+    (c.child_at-index.ensures.before ∙ ap (λ ys. length (all_elements (take c.child_at-index.result.0 ys)) + c.child_at-index.result.1) c.deref.ensures.value)
+    c.index_mut.ensures.value c.insert.ensures c.make_room-index.ensures.capacity).0

@@ -1,4 +1,4 @@
-use Rattle.std.proofs.Common.{arith, ◌≡◌, ◌+◌, ◌<◌, ◌∙◌, ap, sym, subst, length, take, vec_capacity}
+use Rattle.std.proofs.Common.{arith, ◌+◌, ◌<◌, ◌∙◌, ap, subst, length, take, vec_capacity}
 use Rattle.btree_nodes.specs.Subtree.{all_elements}
 use Rattle.btree_nodes.proofs.TrimLemmas.{loosened, trimmed_fits, trimmed_over}
 use Rattle.btree_nodes.proofs.child.+trim.Goals as goal

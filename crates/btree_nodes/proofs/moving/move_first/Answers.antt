@@ -1,4 +1,3 @@
-use Rattle.std.proofs.Common.{length, take, reverse, drop, ◌-◌, ap, ◌∙◌, length, ◌++◌, sym}
 use Rattle.std.proofs.lemmas.List.{length-reverse}
 use Rattle.btree_nodes.proofs.MovingLemmas.{taken_from_reverse, left_of_reverse}
 use Rattle.btree_nodes.proofs.moving.move_first.Goals as goal

@@ -1,4 +1,4 @@
-use Rattle.std.proofs.Common.{arith, ◌≡◌, ◌+◌, ◌-◌, ◌≤◌, ◌<◌, ◌%◌, ◌^◌, ◌∙◌, ap, sym, length, get_or}
+use Rattle.std.proofs.Common.{arith, ◌≡◌, ◌+◌, ◌-◌, ◌≤◌, ◌<◌, ◌%◌, ◌^◌, ◌∙◌, ap, length, get_or}
 use Rattle.std.specs.List.{between, remove, remove_range}
 use Rattle.arc_core.specs.TreeContents.{elem_sizes}
 use Rattle.btree_nodes.proofs.RunLemmas.{remove_last, get_last}

@@ -1,6 +1,6 @@
 use Rattle.std.proofs.Common.{sym, subst, ap, ◌∙◌, length}
 use Rattle.btree_nodes.proofs.BalanceLemmas.{child_some, least_over}
-use Rattle.btree_nodes.specs.Subtree.{Subtree, all_elements, height_over, IsChildAt}
+use Rattle.btree_nodes.specs.Subtree.{all_elements, height_over, IsChildAt}
 use Rattle.btree_nodes.proofs.child.Child.of_branch.Goals as goal
 
 pub invariant_of-result : goal.invariant_of-result

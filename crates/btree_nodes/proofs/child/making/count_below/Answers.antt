@@ -1,4 +1,4 @@
-use Rattle.std.proofs.Common.{arith, ◌+◌, length, ap, sym, ◌∙◌}
+use Rattle.std.proofs.Common.{arith, ◌+◌, length, ap}
 use Rattle.btree_nodes.specs.Subtree.{Subtree}
 use Rattle.btree_nodes.proofs.ChildrenLemmas.{length_more, front_le}
 use Rattle.btree_nodes.proofs.child.making.count_below.Goals as goal

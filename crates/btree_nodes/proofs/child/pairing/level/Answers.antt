@@ -7,7 +7,7 @@ returns-then-len-lt-MIN_WIDTH-2 g c =
     let left = c.args.left.now.items in
     let right = c.args.right.now.items in
     let moved = shifted left right c.move_last.new.from.items c.move_last.new.to.items c.len-then-len-lt-MIN_WIDTH-2.result c.len-then-len-lt-MIN_WIDTH-2-2.result
-      (omega arith) (omega arith) (omega arith) (omega arith) (omega arith) (omega arith) c.move_last.ensures.from c.move_last.ensures.to in
+    (omega arith) (omega arith) (omega arith) (omega arith) (omega arith) (omega arith) c.move_last.ensures.from c.move_last.ensures.to in
     record {
       items = moved.items;
       first_least = moved.first_least;

@@ -1,6 +1,5 @@
-use Rattle.std.proofs.Common.{sym, subst, ◌≡◌}
-use Rattle.btree_nodes.specs.Subtree.{Subtree, height_over, IsChildAt}
-use Rattle.btree_nodes.specs.NodeRules.{subtree_of, IsNode, IsLeast}
+use Rattle.std.proofs.Common.{sym, subst}
+use Rattle.btree_nodes.specs.Subtree.{height_over, IsChildAt}
 use Rattle.btree_nodes.proofs.BalanceLemmas.{child_some, least_over}
 use Rattle.btree_nodes.proofs.child.removal.least_of.Goals as goal
 

@@ -1,0 +1,4 @@
+pub mod Positions
+pub mod Spans
+pub mod Walking
+pub mod Walks
