@@ -1,9 +1,6 @@
 //! Each call that can answer want of memory, once with ample memory.
 
-use arc_core::{
-    Executor, Expiry, Key, KeyRef, MemorySink, NoMemory, Push, Reply, Seq, Sink, Value, Word,
-};
-use byte_account::{Shelf, Weighs};
+use arc_core::{Executor, Expiry, Key, KeyRef, MemorySink, Push, Reply, Seq, Sink, Value, Word};
 use cache_engine::{Cache, Settings};
 use frame_reader::{Frames, Unit};
 use kv_items::KvItem;
@@ -38,40 +35,6 @@ fn an_item_is_joined_to(rt: HostRuntime) -> Result<(), Fail> {
     };
     assert_eq!(rt; joined.value.bytes(), b"ab".as_slice());
     assert_eq!(rt; (joined.flags, joined.unique), (5, 2));
-    Ok(())
-}
-
-// Something that is held.
-#[derive(Drop)]
-struct Parcel;
-
-impl Weighs for Parcel {
-    ghost weigh = { λ _ _. 10 };
-
-    fn weight(&self, _key: &[u8]) -> u64 {
-        10
-    }
-}
-
-// Makes a hollow place for the key on the list, and moves it among the sticky ones.
-fn stick(shelf: &mut Shelf<Parcel>, alloc: Global, key: KeyRef<'_>) -> Result<(), NoMemory> {
-    let name = key.bytes();
-    let key = Key::copy(alloc, key)?;
-    shelf.remove(name);
-    shelf.reserve_new(key, false)?;
-    shelf.restick(name, true)
-}
-
-#[test]
-fn a_place_is_made_and_moved(rt: HostRuntime) -> Result<(), Fail> {
-    let mut shelf = Shelf::<Parcel>::new(rt.alloc(), 100)?;
-    assert_eq!(rt; (shelf.count(), shelf.total()), (0, 0));
-    stick(&mut shelf, rt.alloc(), KeyRef::read(b"a")?)?;
-    stick(&mut shelf, rt.alloc(), KeyRef::read(b"b")?)?;
-    // The places are hollow, so they weigh nothing.
-    assert_eq!(rt; (shelf.count(), shelf.total()), (2, 0));
-    shelf.cancel(b"a");
-    assert_eq!(rt; shelf.count(), 1);
     Ok(())
 }
 
