@@ -3,7 +3,7 @@ use Rattle.std.proofs.Common.{◌≡◌, ◌<◌, ◌≤◌, ◌+◌, List, ◌+
 use Rattle.std.proofs.lemmas.List.{take-append-drop, length-take-le}
 use Rattle.std.proofs.Math.Seq.{take-append_seam}
 use Rattle.std.proofs.lemmas.List.{drop-drop}
-use Rattle.arc_core.specs.Outside.{CameNext}
+use Rattle.arc_core.specs.Outside.{incoming, CameNext}
 
 -- the front of the buffer is what was copied, however long the buffer is
 front_is_copied : (copied rest : List ℕ) (n : ℕ) → length copied ≡ n → take n (copied ++ rest) ≡ copied
@@ -14,7 +14,7 @@ next_then_rest : (bytes : List ℕ) (at n : ℕ) → drop at bytes ≡ take n (d
 next_then_rest bytes at n = rw (sym (drop-drop n at bytes)) (sym (take-append-drop n (drop at bytes)))
 
 -- what was copied are the next bytes that were left
-pub came_next : (bytes buffer copied : List ℕ) (at n : ℕ) → at + n ≤ length bytes → n ≤ length buffer → 0 < n → copied ≡ take n (drop at bytes) → CameNext (Some (drop at bytes)) (Some (drop (at + n) bytes)) 0 0 (copied ++ drop n buffer) n
+pub came_next : (bytes buffer copied : List ℕ) (at n : ℕ) → at + n ≤ length bytes → n ≤ length buffer → 0 < n → copied ≡ take n (drop at bytes) → CameNext (incoming (Some (drop at bytes)) 0) (incoming (Some (drop (at + n) bytes)) 0) (copied ++ drop n buffer) n
 came_next bytes buffer copied at n inside fits some is =
     let len : length copied ≡ n = ap length is ∙ length-take-le n (drop at bytes) (omega (arith, length-drop at bytes)) in
     record {

@@ -75,7 +75,7 @@ words-first : (xs : List ℕ) (n : ℕ) → n ≡ position_or_len is_space xs �
 words-first xs n e h = rw e (⊎_elim (words-first_of_more xs h) (words-only xs h) (cases_lt (position_or_len is_space xs) (length xs)))
 
 -- the place of the first byte that passes, as a count of those in front
-position-or : (p : ℕ → Bool) (xs : List ℕ) → unwrap_or (position p xs) (length xs) ≡ position_or_len p xs
+pub position-or : (p : ℕ → Bool) (xs : List ℕ) → unwrap_or (position p xs) (length xs) ≡ position_or_len p xs
 position-or p xs = grind (arith, common_steps, prefix_len-le-length (λ b. not (p b)) xs)
 
 position-Some_at : (p : ℕ → Bool) (xs : List ℕ) (i : ℕ) → position p xs ≡ Some i → (position_or_len p xs ≡ i) × (i < length xs)
@@ -104,3 +104,24 @@ pub words-some : (xs : List ℕ) (i n : ℕ) → position is_other xs ≡ Some i
 words-some xs i n h e =
     let p = position-Some_at is_other xs i h in
     words-some_at xs i n p.0 p.1 (e ∙ position-or is_space (drop i xs))
+
+-- what is known of a first word behind spaces
+pub record FirstWord (xs left : List ℕ) (n : ℕ) : Type 0 where
+  pub some : 0 < n
+  pub within : n ≤ length left
+  pub words_are : words xs ≡ take n left ∷ words (drop n left)
+
+-- the first word of a text begins at its first byte other than the space, and ends before the next space
+pub first_word_at : (xs : List ℕ) (i : ℕ) → position is_other xs ≡ Some i → FirstWord xs (drop i xs) (position_or_len is_space (drop i xs))
+first_word_at xs i h =
+    let p = position-Some_at is_other xs i h in
+    let left = drop i xs in
+    let long : 0 < length left = rw (length-drop i xs) (omega (arith, p.1)) in
+    let begins : Begins left = rw p.0 at (word_begins xs) in
+    let word : 0 < position_or_len is_space left = ⊎_elim (λ none. absurd (omega (arith, long, ap length none))) (λ h. h) begins in
+    let same : words xs ≡ words left = words-behind_spaces xs ∙ ap (λ k. words (drop k xs)) p.0 in
+    record {
+      some = word;
+      within = prefix_len-le-length (λ b. not (is_space b)) left;
+      words_are = same ∙ words-first left (position_or_len is_space left) refl word;
+    }

@@ -1,33 +1,16 @@
 -- The rows of the key-value commands (memcached's text protocol, "Storage commands" to "Touch", and ARCUS's key-value
 -- commands).
-use Rattle.std.specs.Prelude.{ℕ, ◌^◌, Bool, List, bytes_eq, codes, if◌then◌else◌, Option, Some, None, ℤ}
+use Rattle.std.specs.Prelude.{ℕ, ◌^◌, Bool, List, bytes_eq, codes, if◌then◌else◌, Option, Some, None}
 use Rattle.std.specs.Option.{option_map, option_map_or}
+use Rattle.arc_core.specs.declared.commands.Command.{Command}
+use Rattle.arc_core.specs.declared.commands.Command.TheVariants as command
+use Rattle.arc_core.specs.declared.commands.Head.{Head}
 use Rattle.arc_core.specs.declared.requests.Answer.{Answer}
 use Rattle.arc_core.specs.declared.requests.Answer.TheVariants as answer
 use Rattle.arc_core.specs.declared.requests.StoreVerb.{StoreVerb}
 use Rattle.arc_core.specs.declared.requests.StoreVerb.TheVariants as verb
 use Rattle.arc_core.specs.Rows.{Part, Row, one, both, perhaps, all_left, gives, ◌>>=◌}
 use Rattle.arc_core.specs.Words.{key_word, keys_up_to, number_below, number_from_1, exptime_word, zero_word}
-
--- A command as its line spells it: a request, less the block.
-pub data Command : Type 0 where
-  store : (verb : StoreVerb) → (key : List ℕ) → (flags : ℕ) → (exptime : ℤ) → (len : ℕ) → Command
-  get : (keys : List (List ℕ)) → (unique : Bool) → Command
-  -- the keys stand in a block of so many bytes, and are so many
-  get_block : (len : ℕ) → (number : ℕ) → Command
-  -- `initial`: client flags, exptime and number of the item that is made where there is none
-  count : (up : Bool) → (key : List ℕ) → (delta : ℕ) → (initial : Option (ℕ × ℤ × ℕ)) → Command
-  delete : (key : List ℕ) → Command
-  touch : (key : List ℕ) → (exptime : ℤ) → Command
-  flush_all : Command
-  version : Command
-  -- the session ends
-  quit : Command
-
--- What a line spells: a command, and how its answer is sent.
-pub record Head : Type 0 where
-  pub command : Command
-  pub answer : Answer
 
 -- the word `noreply`
 unfoldable pub noreply_word : List ℕ → Option Answer
@@ -39,7 +22,7 @@ noreply = perhaps (one noreply_word)
 
 -- a head of this command, whose answer is sent where the line does not say `noreply`
 abbrev pub head : Command → Option Answer → Head
-head command silent = record { command = command; answer = option_map_or (λ a. a) silent answer.Plain }
+head asked silent = record { command = asked; answer = option_map_or (λ a. a) silent answer.Plain }
 
 -- set|add|replace|append|prepend <key> <flags> <exptime> <bytes> [noreply]
 unfoldable pub store_row : StoreVerb → Row Head
@@ -49,7 +32,7 @@ store_row verb = do
   exptime ← one exptime_word
   len ← one (number_below (2 ^ 31))
   silent ← noreply
-  gives (head (store verb key flags exptime len) silent)
+  gives (head (command.Store verb key flags exptime len) silent)
 
 -- cas <key> <flags> <exptime> <bytes> <unique> [noreply]
 unfoldable pub cas_row : Row Head
@@ -60,20 +43,20 @@ cas_row = do
   len ← one (number_below (2 ^ 31))
   unique ← one (number_below (2 ^ 64))
   silent ← noreply
-  gives (head (store (verb.Cas unique) key flags exptime len) silent)
+  gives (head (command.Store (verb.Cas unique) key flags exptime len) silent)
 
 -- get|gets <key> [<key> ..], with 1,000 keys at most
 unfoldable pub get_row : Bool → Row Head
 get_row unique = do
   keys ← all_left (keys_up_to 1000)
-  gives (head (get keys unique) None)
+  gives (head (command.Get keys unique) None)
 
 -- mget <lenkeys> <numkeys>, with 1 to 1,000 keys
 unfoldable pub mget_row : Row Head
 mget_row = do
   len ← one (number_from_1 (2 ^ 31))
   number ← one (number_from_1 1001)
-  gives (head (get_block len number) None)
+  gives (head (command.GetBlock len number) None)
 
 -- incr|decr <key> <delta> [<flags> <exptime> <initial>] [noreply]
 unfoldable pub count_row : Bool → Row Head
@@ -82,7 +65,7 @@ count_row up = do
   delta ← one (number_below (2 ^ 64))
   initial ← perhaps (both (one (number_below (2 ^ 32))) (both (one exptime_word) (one (number_below (2 ^ 64)))))
   silent ← noreply
-  gives (head (count up key delta (option_map (λ i. (i.0, i.1.0, i.1.1)) initial)) silent)
+  gives (head (command.Count up key delta (option_map (λ i. (i.0, i.1.0, i.1.1)) initial)) silent)
 
 -- delete <key> [0] [noreply]
 unfoldable pub delete_row : Row Head
@@ -90,7 +73,7 @@ delete_row = do
   key ← one key_word
   zero ← perhaps (one zero_word)
   silent ← noreply
-  gives (head (delete key) silent)
+  gives (head (command.Delete key) silent)
 
 -- touch <key> <exptime> [noreply]
 unfoldable pub touch_row : Row Head
@@ -98,18 +81,18 @@ touch_row = do
   key ← one key_word
   exptime ← one exptime_word
   silent ← noreply
-  gives (head (touch key exptime) silent)
+  gives (head (command.Touch key exptime) silent)
 
 -- flush_all [noreply]
 unfoldable pub flush_all_row : Row Head
 flush_all_row = do
   silent ← noreply
-  gives (head flush_all silent)
+  gives (head command.FlushAll silent)
 
 -- version
 abbrev pub version_row : Row Head
-version_row = gives (head version None)
+version_row = gives (head command.Version None)
 
 -- quit
 abbrev pub quit_row : Row Head
-quit_row = gives (head quit None)
+quit_row = gives (head command.Quit None)

@@ -8,6 +8,7 @@ pub mod Grammar
 pub mod Growth
 pub mod HexText
 pub mod History
+pub mod InsertPlan
 pub mod Item
 pub mod Key
 pub mod KeyValueGrammar
@@ -18,9 +19,14 @@ pub mod ReplyText
 pub mod Room
 pub mod Rows
 pub mod SessionText
+pub mod Settling
 pub mod ShortBytes
+pub mod Span
 pub mod Step
+pub mod TreeContents
+pub mod TreeReading
 pub mod Words
 pub mod WorkedFilters
 pub mod WorkedRows
 pub mod WorkedSteps
+pub mod WorkedTrees

@@ -61,8 +61,8 @@ module _ {X : Type 0} where
   shelved key x shelf = if is_some (lookup (bytes_eq key) shelf) then set_value (bytes_eq key) shelf x else (key, x) ∷ shelf
 
   -- the key is used: on the shelf its place moves to the front
-  abbrev pub touched : List ℕ → Places X → Places X
-  touched key places = record places { shelf = to_front key places.shelf }
+  abbrev pub brought_to_front : List ℕ → Places X → Places X
+  brought_to_front key places = record places { shelf = to_front key places.shelf }
 
   -- x under the key on the side that is named, where the key keeps its place if it has one; a place on the other side goes
   abbrev pub placed : Bool → List ℕ → X → Places X → Places X

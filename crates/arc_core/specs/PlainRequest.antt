@@ -6,7 +6,8 @@ use Rattle.arc_core.specs.declared.requests.Act.TheVariants as act
 use Rattle.arc_core.specs.declared.requests.Answer.{Answer}
 use Rattle.arc_core.specs.declared.requests.StoreVerb.{StoreVerb}
 
--- what a request does
+-- What a request does. It is `Act` with the value itself: what an act stores is lent by its block, and equal acts may
+-- borrow from different places.
 pub data PlainAct : Type 0 where
   store : (verb : StoreVerb) → (key : List ℕ) → (flags : ℕ) → (exptime : ℤ) → (value : List ℕ) → PlainAct
   get : (keys : List (List ℕ)) → (unique : Bool) → PlainAct
@@ -21,6 +22,7 @@ pub record PlainRequest : Type 0 where
   pub act : PlainAct
   pub answer : Answer
 
+-- what a request does, as plain data
 abbrev pub plain_act : Act → PlainAct
 plain_act (act.Store verb key flags exptime value) = store verb key flags exptime value.now
 plain_act (act.Get keys unique) = get keys unique

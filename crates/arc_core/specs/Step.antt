@@ -15,7 +15,7 @@ use Rattle.arc_core.specs.declared.replies.ValueRow.{ValueRow}
 use Rattle.arc_core.specs.PlainRequest.{PlainAct, PlainRequest, store, get, count, delete, touch, flush_all, version}
 use Rattle.arc_core.specs.Words.{number_below}
 use Rattle.arc_core.specs.Item.{Item, key_value, size_of, expiry_of, with_expiry, expiry_at, has_expired, is_sticky}
-use Rattle.arc_core.specs.Places.{Places, empty_places, found, placed, touched, without}
+use Rattle.arc_core.specs.Places.{Places, empty_places, found, placed, brought_to_front, without}
 use Rattle.arc_core.specs.Room.{room, evicted}
 use Rattle.arc_core.specs.CacheState.{CacheState}
 
@@ -51,7 +51,7 @@ started state now keys =
 -- What a row of the table wants done.
 pub data Plan : Type 0 where
   -- to answer, and leave all items as they are
-  tell : Reply → Plan
+  answer_only : Reply → Plan
   -- to put an item under the key, let the cas counter be this, and answer
   put : (key : List ℕ) → Item → (counter : ℕ) → Reply → Plan
   -- to take the item under the key away, and answer
@@ -71,26 +71,26 @@ put_value state key flags expiry value answer =
 -- a value made of a held one is put in its place, where it is not too large
 abbrev pub put_joined : CacheState → List ℕ → ℕ → Expiry → List ℕ → Plan
 put_joined state key flags expiry value =
-    if nat_lt 1048576 (length value) then tell (reply.Word word.TooLarge)
+    if nat_lt 1048576 (length value) then answer_only (reply.Word word.TooLarge)
     else put_value state key flags expiry value (reply.Word word.Stored)
 
 -- the rows of the storing commands, by the item under the key
 abbrev pub plan_of_store : CacheState → StoreVerb → List ℕ → ℕ → ℤ → List ℕ → Option Item → Plan
 plan_of_store state verb.Set key flags exptime value held = put_value state key flags (expiry_at state.latest exptime) value (reply.Word word.Stored)
 plan_of_store state verb.Add key flags exptime value None = put_value state key flags (expiry_at state.latest exptime) value (reply.Word word.Stored)
-plan_of_store state verb.Add key flags exptime value (Some item) = tell (reply.Word word.NotStored)
-plan_of_store state verb.Replace key flags exptime value None = tell (reply.Word word.NotStored)
+plan_of_store state verb.Add key flags exptime value (Some item) = answer_only (reply.Word word.NotStored)
+plan_of_store state verb.Replace key flags exptime value None = answer_only (reply.Word word.NotStored)
 plan_of_store state verb.Replace key flags exptime value (Some item) = put_value state key flags (expiry_at state.latest exptime) value (reply.Word word.Stored)
-plan_of_store state verb.Append key flags exptime value None = tell (reply.Word word.NotStored)
+plan_of_store state verb.Append key flags exptime value None = answer_only (reply.Word word.NotStored)
 plan_of_store state verb.Append key flags exptime value (Some (key_value old_flags expiry unique old)) = put_joined state key old_flags expiry (old ++ value)
-plan_of_store state verb.Prepend key flags exptime value None = tell (reply.Word word.NotStored)
+plan_of_store state verb.Prepend key flags exptime value None = answer_only (reply.Word word.NotStored)
 plan_of_store state verb.Prepend key flags exptime value (Some (key_value old_flags expiry unique old)) = put_joined state key old_flags expiry (value ++ old)
-plan_of_store state (verb.Cas asked) key flags exptime value None = tell (reply.Word word.NotFound)
+plan_of_store state (verb.Cas asked) key flags exptime value None = answer_only (reply.Word word.NotFound)
 plan_of_store state (verb.Cas asked) key flags exptime value (Some (key_value old_flags expiry unique old)) =
     if unique == asked then put_value state key flags (expiry_at state.latest exptime) value (reply.Word word.Stored)
-    else tell (reply.Word word.Exists)
+    else answer_only (reply.Word word.Exists)
 
--- a number after a count: up it begins again at 0 after the greatest of 64 bits, down it ends at 0
+-- a number after a count (`incr`, `decr`): up it begins again at 0 after the greatest of 64 bits, down it ends at 0
 abbrev pub counted : Bool → ℕ → ℕ → ℕ
 counted true delta n = (n + delta) % 2 ^ 64
 counted false delta n = n - delta
@@ -101,15 +101,15 @@ put_number state key flags expiry n = put_value state key flags expiry (decimal 
 
 -- a count where no item is held: `initial` has the client flags, the exptime and the number of one that is made
 abbrev pub plan_of_first : CacheState → List ℕ → Option (ℕ × ℤ × ℕ) → Plan
-plan_of_first state key None = tell (reply.Word word.NotFound)
+plan_of_first state key None = answer_only (reply.Word word.NotFound)
 plan_of_first state key (Some initial) = put_number state key initial.0 (expiry_at state.latest initial.1) initial.2
 
 -- a count of the number that a held value spells, which keeps the item's client flags and expiry
 abbrev pub plan_of_next : CacheState → Bool → List ℕ → ℕ → ℕ → Expiry → Option ℕ → Plan
-plan_of_next state up key delta flags expiry None = tell (reply.Word word.NotNumeric)
+plan_of_next state up key delta flags expiry None = answer_only (reply.Word word.NotNumeric)
 plan_of_next state up key delta flags expiry (Some n) = put_number state key flags expiry (counted up delta n)
 
--- the rows of the counting commands, by the item under the key
+-- the rows of the counting commands, `incr` and `decr`, by the item under the key
 abbrev pub plan_of_count : CacheState → Bool → List ℕ → ℕ → Option (ℕ × ℤ × ℕ) → Option Item → Plan
 plan_of_count state up key delta initial None = plan_of_first state key initial
 plan_of_count state up key delta initial (Some (key_value flags expiry unique value)) =
@@ -117,12 +117,12 @@ plan_of_count state up key delta initial (Some (key_value flags expiry unique va
 
 -- the row of `delete`, by the item under the key
 abbrev pub plan_of_delete : List ℕ → Option Item → Plan
-plan_of_delete key None = tell (reply.Word word.NotFound)
+plan_of_delete key None = answer_only (reply.Word word.NotFound)
 plan_of_delete key (Some item) = take_away key (reply.Word word.Deleted)
 
 -- the row of `touch`, by the item under the key
 abbrev pub plan_of_touch : CacheState → List ℕ → ℤ → Option Item → Plan
-plan_of_touch state key exptime None = tell (reply.Word word.NotFound)
+plan_of_touch state key exptime None = answer_only (reply.Word word.NotFound)
 plan_of_touch state key exptime (Some item) = put key (with_expiry (expiry_at state.latest exptime) item) state.counter (reply.Word word.Touched)
 
 -- the row that a held item answers
@@ -138,12 +138,12 @@ rows_of unique places (key ∷ keys) = option_map_or (λ item. row_of_item uniqu
 -- the row of the table
 abbrev pub plan_of : CacheState → PlainAct → Plan
 plan_of state (store verb key flags exptime value) = plan_of_store state verb key flags exptime value (found key state.places)
-plan_of state (get keys unique) = tell (reply.Values (rows_of unique state.places keys))
+plan_of state (get keys unique) = answer_only (reply.Values (rows_of unique state.places keys))
 plan_of state (count up key delta initial) = plan_of_count state up key delta initial (found key state.places)
 plan_of state (delete key) = plan_of_delete key (found key state.places)
 plan_of state (touch key exptime) = plan_of_touch state key exptime (found key state.places)
 plan_of state flush_all = take_all (reply.Word word.Ok)
-plan_of state version = tell (reply.Word word.Version)
+plan_of state version = answer_only (reply.Word word.Version)
 
 -- THE PLAN CARRIED OUT
 
@@ -169,7 +169,7 @@ put_behind evictions key item places = placed (is_sticky (expiry_of item)) key i
 
 -- what the plan leaves and answers, or none where an item is to be put for which there is no room
 abbrev pub carried_out : CacheState → Plan → Option (CacheState × Reply)
-carried_out state (tell answer) = Some (state, answer)
+carried_out state (answer_only answer) = Some (state, answer)
 carried_out state (put key item counter answer) =
     option_map (λ gone. (record state { counter = counter; places = put_behind (length gone) key item state.places }, answer))
     (room_for state key item)
@@ -181,7 +181,7 @@ carried_out state (take_all answer) = Some (record state { places = empty_places
 -- the places after the key was used: an item there that has not expired moves to the front of the shelf
 abbrev pub used_at : ℕ → List ℕ → Option Item → Places Item → Places Item
 used_at latest key None places = places
-used_at latest key (Some item) places = if has_expired latest (expiry_of item) then places else touched key places
+used_at latest key (Some item) places = if has_expired latest (expiry_of item) then places else brought_to_front key places
 
 -- the places after these keys were used, one after another
 abbrev pub used : ℕ → List (List ℕ) → Places Item → Places Item

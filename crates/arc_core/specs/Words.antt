@@ -1,6 +1,7 @@
 -- Words of a line or block, and what single words spell. (The memcached protocol separates words by a space.)
-use Rattle.std.specs.Prelude.{◌==◌, ◌&&◌, not, ℕ, ◌+◌, ◌-◌, ◌*◌, ◌^◌, nat_lt, nat_le, if◌then◌else◌, Bool, List, length, drop, filter, fold, slice_index, bytes_eq, codes, is_none, All, Option, Some, None, ℤ, pos, ◌-ℤ◌}
+use Rattle.std.specs.Prelude.{◌==◌, ◌∷◌, ◌&&◌, not, ℕ, ◌+◌, ◌-◌, ◌*◌, ◌^◌, nat_lt, nat_le, if◌then◌else◌, Bool, List, length, drop, filter, fold, slice_index, bytes_eq, codes, is_none, All, Option, Some, None, ℤ, pos, ◌-ℤ◌}
 use Rattle.std.specs.Option.{option_map}
+use Rattle.std.specs.Borrow.{Bor}
 use Rattle.std.specs.List.{slice_split, list_all}
 use Rattle.std.specs.Char.{is_ascii_digit}
 use Rattle.arc_core.specs.Key.{key_fault, IsKey}
@@ -16,6 +17,15 @@ is_other b = not (b == 32)
 -- the longest runs of bytes other than the space
 abbrev pub words : List ℕ → List (List ℕ)
 words text = filter (λ word. nat_lt 0 (length word)) (slice_split is_space text)
+
+-- words, and those behind a first one, where there is one
+abbrev pub words_left : Option (Bor (List ℕ)) → List (List ℕ) → List (List ℕ)
+words_left None list = list
+words_left (Some first) list = first.now ∷ list
+
+-- the words of a text, and of one that stands behind a first word, where there is one
+abbrev pub words_from : Option (Bor (List ℕ)) → List ℕ → List (List ℕ)
+words_from first text = words_left first (words text)
 
 -- the number that decimal digits spell
 abbrev pub number_of : List ℕ → ℕ
@@ -58,6 +68,10 @@ are_keys list = list_all (λ word. is_none (key_fault word)) list
 -- how many words there are, where there are at most so many of them and each is a key
 unfoldable pub key_count : ℕ → List (List ℕ) → Option ℕ
 key_count most list = if nat_le (length list) most && are_keys list then Some (length list) else None
+
+-- the words, where there are at most so many of them and each is a key
+unfoldable pub at_most_keys : ℕ → List (List ℕ) → Option (List (List ℕ))
+at_most_keys most list = if nat_le (length list) most && are_keys list then Some list else None
 
 -- the words, where there are exactly so many of them and each is a key
 unfoldable pub keys_counted : ℕ → List (List ℕ) → Option (List (List ℕ))

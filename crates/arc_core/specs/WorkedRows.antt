@@ -1,12 +1,13 @@
 -- Worked examples that compute.
 use Rattle.std.specs.Prelude.{◌≡◌, ◌^◌, [], ◌∷◌, codes, refl, true, false, None, Some, pos, negsuc}
+use Rattle.arc_core.specs.declared.commands.Command.TheVariants as command
 use Rattle.arc_core.specs.declared.outside.Need.TheVariants as need
 use Rattle.arc_core.specs.declared.items.Expiry.TheVariants as expiry
 use Rattle.arc_core.specs.declared.requests.Answer.TheVariants as answer
 use Rattle.arc_core.specs.declared.requests.StoreVerb.TheVariants as verb
 use Rattle.arc_core.specs.PlainRequest as act
 use Rattle.arc_core.specs.Words.{words, number_below, exptime_word, zero_word, key_word, keys_up_to, keys_counted}
-use Rattle.arc_core.specs.KeyValueGrammar.{store, get, get_block, count, delete, store_row, cas_row, get_row, count_row, delete_row, noreply_word}
+use Rattle.arc_core.specs.KeyValueGrammar.{store_row, cas_row, get_row, count_row, delete_row, noreply_word}
 use Rattle.arc_core.specs.Grammar.{head_of, line_needs, command_of, act_of}
 use Rattle.arc_core.specs.Item.{expiry_at, has_expired}
 use Rattle.arc_core.specs.Step.{counted}
@@ -16,32 +17,32 @@ words_of_a_line : words (codes " set  a 5 ") ≡ codes "set" ∷ codes "a" ∷ c
 words_of_a_line = refl
 
 -- a storing command, with a leading zero in its flags and a minus before its exptime
-reads_set : head_of (words (codes "set a 05 -0 3")) ≡ Some (record { command = store verb.Set (codes "a") 5 (pos 0) 3; answer = answer.Plain })
+reads_set : head_of (words (codes "set a 05 -0 3")) ≡ Some (record { command = command.Store verb.Set (codes "a") 5 (pos 0) 3; answer = answer.Plain })
 unfolding command_of store_row exptime_word number_below key_word
 reads_set = refl
 
 -- a storing command that wants no answer; its key is the word that says so
-reads_noreply : head_of (words (codes "cas noreply 5 -1 3 7 noreply")) ≡ Some (record { command = store (verb.Cas 7) (codes "noreply") 5 (negsuc 0) 3; answer = answer.NoReply })
+reads_noreply : head_of (words (codes "cas noreply 5 -1 3 7 noreply")) ≡ Some (record { command = command.Store (verb.Cas 7) (codes "noreply") 5 (negsuc 0) 3; answer = answer.NoReply })
 unfolding command_of cas_row exptime_word number_below key_word noreply_word
 reads_noreply = refl
 
 -- a retrieval of several keys
-reads_get : head_of (words (codes "get b a b")) ≡ Some (record { command = get (codes "b" ∷ codes "a" ∷ codes "b" ∷ []) false; answer = answer.Plain })
+reads_get : head_of (words (codes "get b a b")) ≡ Some (record { command = command.Get (codes "b" ∷ codes "a" ∷ codes "b" ∷ []) false; answer = answer.Plain })
 unfolding command_of get_row keys_up_to
 reads_get = refl
 
 -- a key that is the word `noreply` is a key
-reads_noreply_as_key : head_of (words (codes "gets a noreply")) ≡ Some (record { command = get (codes "a" ∷ codes "noreply" ∷ []) true; answer = answer.Plain })
+reads_noreply_as_key : head_of (words (codes "gets a noreply")) ≡ Some (record { command = command.Get (codes "a" ∷ codes "noreply" ∷ []) true; answer = answer.Plain })
 unfolding command_of get_row keys_up_to
 reads_noreply_as_key = refl
 
 -- a count that makes an item where there is none
-reads_incr : head_of (words (codes "incr n 1 0 0 10 noreply")) ≡ Some (record { command = count true (codes "n") 1 (Some (0, pos 0, 10)); answer = answer.NoReply })
+reads_incr : head_of (words (codes "incr n 1 0 0 10 noreply")) ≡ Some (record { command = command.Count true (codes "n") 1 (Some (0, pos 0, 10)); answer = answer.NoReply })
 unfolding command_of count_row exptime_word number_below key_word noreply_word
 reads_incr = refl
 
 -- and one that does not
-reads_decr : head_of (words (codes "decr n 1")) ≡ Some (record { command = count false (codes "n") 1 None; answer = answer.Plain })
+reads_decr : head_of (words (codes "decr n 1")) ≡ Some (record { command = command.Count false (codes "n") 1 None; answer = answer.Plain })
 unfolding command_of count_row exptime_word number_below key_word noreply_word
 reads_decr = refl
 
@@ -51,7 +52,7 @@ unfolding command_of count_row exptime_word number_below key_word noreply_word
 refuses_incr = refl
 
 -- the 0 that memcached allows behind the key of `delete` is that word
-reads_delete : head_of (words (codes "delete a 0 noreply")) ≡ Some (record { command = delete (codes "a"); answer = answer.NoReply })
+reads_delete : head_of (words (codes "delete a 0 noreply")) ≡ Some (record { command = command.Delete (codes "a"); answer = answer.NoReply })
 unfolding command_of delete_row zero_word key_word noreply_word
 reads_delete = refl
 
@@ -107,11 +108,11 @@ unfolding command_of store_row exptime_word number_below key_word noreply_word
 needs_of_set = refl
 
 -- keys in a block, and one that is not the number of keys that was named
-reads_mget_block : act_of (get_block 3 2) (codes "a b") ≡ Some (act.get (codes "a" ∷ codes "b" ∷ []) false)
+reads_mget_block : act_of (command.GetBlock 3 2) (codes "a b") ≡ Some (act.get (codes "a" ∷ codes "b" ∷ []) false)
 unfolding keys_counted
 reads_mget_block = refl
 
-refuses_mget_block : act_of (get_block 3 2) (codes "a  ") ≡ None
+refuses_mget_block : act_of (command.GetBlock 3 2) (codes "a  ") ≡ None
 unfolding keys_counted
 refuses_mget_block = refl
 

@@ -7,7 +7,7 @@ use Rattle.arc_core.specs.declared.replies.Word.TheVariants as word
 use Rattle.arc_core.specs.Item.{Item, key_value}
 use Rattle.arc_core.specs.Places.{empty_places}
 use Rattle.arc_core.specs.CacheState.{CacheState}
-use Rattle.arc_core.specs.Step.{sticky_extra_of, tell, put, take_away, plan_of_store, plan_of_count, plan_of_delete, plan_of_touch, next_unique}
+use Rattle.arc_core.specs.Step.{sticky_extra_of, answer_only, put, take_away, plan_of_store, plan_of_count, plan_of_delete, plan_of_touch, next_unique}
 use Rattle.arc_core.specs.Words.{number_below}
 use Rattle.arc_core.specs.Room.{shortest_suffix, fits, share_fits}
 
@@ -28,10 +28,10 @@ set_stores : plan_of_store at verb.Set (codes "a") 9 (pos 10) (codes "y") (Some 
 set_stores = refl
 
 -- `add` puts one only where none is held, and `replace` only where one is
-add_is_refused : plan_of_store at verb.Add (codes "a") 9 (pos 0) (codes "y") (Some held) ≡ tell (reply.Word word.NotStored)
+add_is_refused : plan_of_store at verb.Add (codes "a") 9 (pos 0) (codes "y") (Some held) ≡ answer_only (reply.Word word.NotStored)
 add_is_refused = refl
 
-replace_is_refused : plan_of_store at verb.Replace (codes "a") 9 (pos 0) (codes "y") None ≡ tell (reply.Word word.NotStored)
+replace_is_refused : plan_of_store at verb.Replace (codes "a") 9 (pos 0) (codes "y") None ≡ answer_only (reply.Word word.NotStored)
 replace_is_refused = refl
 
 -- `append` and `prepend` keep flags and expiry
@@ -45,18 +45,18 @@ prepend_joins = refl
 cas_stores : plan_of_store at (verb.Cas 3) (codes "a") 9 (negsuc 0) (codes "y") (Some held) ≡ put (codes "a") (key_value 9 expiry.Sticky 7 (codes "y")) 7 (reply.Word word.Stored)
 cas_stores = refl
 
-cas_is_refused : plan_of_store at (verb.Cas 2) (codes "a") 9 (pos 0) (codes "y") (Some held) ≡ tell (reply.Word word.Exists)
+cas_is_refused : plan_of_store at (verb.Cas 2) (codes "a") 9 (pos 0) (codes "y") (Some held) ≡ answer_only (reply.Word word.Exists)
 cas_is_refused = refl
 
-cas_finds_none : plan_of_store at (verb.Cas 2) (codes "a") 9 (pos 0) (codes "y") None ≡ tell (reply.Word word.NotFound)
+cas_finds_none : plan_of_store at (verb.Cas 2) (codes "a") 9 (pos 0) (codes "y") None ≡ answer_only (reply.Word word.NotFound)
 cas_finds_none = refl
 
 -- a count of what is no number, and of nothing
-count_is_refused : plan_of_count at true (codes "a") 1 None (Some held) ≡ tell (reply.Word word.NotNumeric)
+count_is_refused : plan_of_count at true (codes "a") 1 None (Some held) ≡ answer_only (reply.Word word.NotNumeric)
 unfolding number_below
 count_is_refused = refl
 
-count_finds_none : plan_of_count at true (codes "a") 1 None None ≡ tell (reply.Word word.NotFound)
+count_finds_none : plan_of_count at true (codes "a") 1 None None ≡ answer_only (reply.Word word.NotFound)
 count_finds_none = refl
 
 -- `touch` gives another expiry, and the counter stays

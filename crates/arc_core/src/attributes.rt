@@ -1,6 +1,8 @@
 //! What a collection carries beside its elements, and what a client asks of it.
+ghost use Rattle.std.specs.Prelude.{◌≡◌, ◌<◌, ◌≤◌, List, [], ◌∷◌, ◌++◌, length};
 
 use crate::{Action, Bkey, Expiry, Kind};
+use std::marker::Model;
 
 /// The attributes of an item. Key-value items have client flags and expiry alone.
 #[derive(Clone, Copy, Debug, PartialEq, Eq)]
@@ -87,4 +89,58 @@ pub enum AttrNumber {
 pub struct AttrValue {
     pub name: AttrName,
     pub value: AttrNumber,
+}
+
+/// The most attributes of an answer.
+pub const MAX_ATTRIBUTES: usize = 16;
+
+/// Up to 16 attributes with their values, in the order in which they are answered. Contracts see the list of them.
+#[derive(Drop)]
+pub struct AttrList {
+    // Blanks from `held` on.
+    places: [AttrValue; MAX_ATTRIBUTES],
+    held: usize,
+}
+
+impl Model for AttrList {
+    ghost use Rattle.std.specs.Prelude.{◌≡◌, ◌≤◌, List, take, length};
+    ghost use Rattle.arc_core.specs.declared.attributes.AttrValue.{AttrValue};
+
+    ghost Value = { List AttrValue };
+
+    ghost view = { λ list. take list.held list.places };
+
+    ghost invariant = { λ list. (list.held ≤ 16) × (length list.places ≡ 16) };
+}
+
+impl AttrList {
+    /// The empty list. Takes no memory.
+    pub fn new() -> AttrList
+        ensures { result ≡ [] }
+    {
+        let blank = AttrValue {
+            name: AttrName::Flags,
+            value: AttrNumber::Plain(0),
+        };
+        AttrList {
+            places: [blank; MAX_ATTRIBUTES],
+            held: 0,
+        }
+    }
+
+    /// Puts a value last. There have to be fewer than 16. Takes no memory.
+    pub fn push(&mut self, value: AttrValue)
+        requires { length self.old < 16 }
+        ensures { self.new ≡ self.old ++ value ∷ [] }
+    {
+        self.places[self.held] = value;
+        self.held += 1;
+    }
+
+    /// The values in order.
+    pub fn as_slice(&self) -> &[AttrValue]
+        ensures { result.now ≡ self.now }
+    {
+        &self.places[..self.held]
+    }
 }

@@ -6,7 +6,7 @@
 //! content hold where it tells.
 ghost use Rattle.std.specs.Prelude.{◌≡◌, ◌<◌, ◌≤◌, List, ℕ, length, Option};
 ghost use Rattle.arc_core.specs.declared.outside.Need.{Need};
-ghost use Rattle.arc_core.specs.Outside.{Pulled, Pushed, LinkPulled, LinkPushed, Ticks};
+ghost use Rattle.arc_core.specs.Outside.{incoming, outgoing, Pulled, Pushed, LinkPulled, LinkPushed, Ticks};
 
 /// The answer of a pull.
 #[derive(Clone, Copy, Debug, PartialEq, Eq)]
@@ -64,7 +64,8 @@ pub trait Source {
     /// Fills the front of the buffer with the next bytes that are left. The buffer may not be empty.
     fn pull(&mut self, buf: &mut [u8]) -> Pull
         requires { 0 < length buf.old }
-        ensures { Pulled (left self.old) (left self.new) (read_faults self.old) (read_faults self.new) buf.new result };
+        ensures { Pulled (incoming (left self.old) (read_faults self.old)) (incoming (left self.new) (read_faults self.new))
+            buf.new result };
 }
 
 /// Where bytes go to. A push may wait, so it never answers `Again`.
@@ -81,8 +82,8 @@ pub trait Sink {
     /// Sends bytes from the front of the piece, which may not be empty.
     fn push(&mut self, piece: &[u8]) -> Push
         requires { 0 < length piece.now }
-        ensures { Pushed (sent self.old) (sent self.new) (write_faults self.old) (write_faults self.new)
-            (refusals self.old) (refusals self.new) piece.now result };
+        ensures { Pushed (outgoing (sent self.old) (write_faults self.old) (refusals self.old))
+            (outgoing (sent self.new) (write_faults self.new) (refusals self.new)) piece.now result };
 }
 
 /// A connection: bytes come from it and go to it. It never waits, and answers `Again` where it would have to.
@@ -108,21 +109,19 @@ pub trait Link {
     /// Fills the front of the buffer with the next bytes that are left. The buffer may not be empty.
     fn pull(&mut self, buf: &mut [u8]) -> Pull
         requires { 0 < length buf.old }
-        ensures pulled { LinkPulled (left self.old) (left self.new) (read_faults self.old) (read_faults self.new)
+        ensures pulled { LinkPulled (incoming (left self.old) (read_faults self.old)) (incoming (left self.new) (read_faults self.new))
             (agains self.old) (agains self.new) buf.new result }
         // A pull sends nothing.
-        ensures sent { sent self.new ≡ sent self.old }
-        ensures write_faults { write_faults self.new ≡ write_faults self.old }
-        ensures refusals { refusals self.new ≡ refusals self.old };
+        ensures outgoing { outgoing (sent self.new) (write_faults self.new) (refusals self.new)
+            ≡ outgoing (sent self.old) (write_faults self.old) (refusals self.old) };
 
     /// Sends bytes from the front of the piece, which may not be empty.
     fn push(&mut self, piece: &[u8]) -> Push
         requires { 0 < length piece.now }
-        ensures pushed { LinkPushed (sent self.old) (sent self.new) (write_faults self.old) (write_faults self.new)
-            (refusals self.old) (refusals self.new) (agains self.old) (agains self.new) piece.now result }
+        ensures pushed { LinkPushed (outgoing (sent self.old) (write_faults self.old) (refusals self.old))
+            (outgoing (sent self.new) (write_faults self.new) (refusals self.new)) (agains self.old) (agains self.new) piece.now result }
         // A push takes nothing.
-        ensures left { left self.new ≡ left self.old }
-        ensures read_faults { read_faults self.new ≡ read_faults self.old };
+        ensures incoming { incoming (left self.new) (read_faults self.new) ≡ incoming (left self.old) (read_faults self.old) };
 }
 
 /// What tells the second. It has no faults.

@@ -45,7 +45,7 @@ pub enum Act<'a> {
         keys: KeyWords<'a>,
         unique: bool,
     },
-    /// Adds to the number that a value spells in decimal digits, or takes from it where `up` is false. Where the key holds
+    /// Adds to the number that a value spells in decimal digits, or takes from it where `up` is false (`incr`, `decr`). Where the key holds
     /// no item, `initial` makes one: its client flags, exptime and number.
     Count {
         up: bool,

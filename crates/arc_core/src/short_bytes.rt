@@ -15,7 +15,7 @@ use std::hash::{Hash, Hasher};
 use std::marker::Model;
 
 /// The most bytes that are kept in place.
-const MAX_SHORT_BYTES: usize = 31;
+pub const MAX_SHORT_BYTES: usize = 31;
 
 /// 1 to 31 bytes that are kept in place.
 ///

@@ -1,9 +1,14 @@
 //! The words of a line or block, read where they lie.
-ghost use Rattle.std.specs.Prelude.{◌≡◌, ◌<◌, List, ℕ, [], ◌∷◌, length, position, MatchOption, IfSome};
+ghost use Rattle.std.specs.Prelude.{◌≡◌, ◌<◌, ◌≤◌, ◌+◌, ◌==◌, List, ℕ, [], ◌∷◌, length, position, MatchOption, IfSome, Some, None, option_map};
+ghost use Rattle.std.specs.List.{position_or_len};
+ghost use Rattle.std.specs.Option.{IfNone};
 ghost use Rattle.std.specs.Iterator.{YieldsFirst, YieldsFirstRef, item_count};
-ghost use Rattle.arc_core.specs.Words.{AreKeys, is_space, is_other, words, key_count, keys_counted, keys_up_to};
+ghost use Rattle.arc_core.specs.Rows.{one, part_read};
+ghost use Rattle.arc_core.specs.Words.{AreKeys, is_space, is_other, words, key_word, number_below, key_count, at_most_keys, keys_counted, keys_up_to};
 
-use crate::KeyRef;
+use crate::keys::key_len;
+use crate::numbers::front_number;
+use crate::{KeyRef, MAX_KEY_BYTES, read_number};
 use std::marker::Model;
 
 /// The first word of a text, and the text behind it; `None` where the text has no word.
@@ -31,6 +36,53 @@ fn first_space(text: &[u8]) -> Option<usize>
     ensures { result ≡ position is_space text.now }
 {
     text.iter().position(|byte| *byte == b' ')
+}
+
+/// The words of a text of at most 65,536 bytes. Contracts see the list of them.
+#[derive(Drop)]
+pub struct Words<'a> {
+    text: &'a [u8],
+}
+
+impl<'a> Model for Words<'a> {
+    ghost use Rattle.std.specs.Prelude.{List, ℕ, ◌≤◌, length};
+    ghost use Rattle.arc_core.specs.Words.{words};
+
+    ghost Value = { List (List ℕ) };
+
+    ghost view = { λ list. words list.text.now };
+
+    ghost invariant = { λ list. length list.text.now ≤ 65536 };
+}
+
+impl<'a> Words<'a> {
+    /// The words of the text. Takes no memory.
+    pub fn of(text: &'a [u8]) -> Words<'a>
+        requires { length text.now ≤ 65536 }
+        ensures { result ≡ words text.now }
+    {
+        Words { text }
+    }
+
+    /// How many words there are.
+    pub fn count(&self) -> u32
+        ensures { result ≡ length self.now }
+    {
+        let mut count = 0;
+        let mut left = self.text;
+        while let Some((_, behind)) = first_word(left) {
+            count += 1;
+            left = behind;
+        }
+        count
+    }
+
+    /// The words in order.
+    pub fn iter(&self) -> WordIter<'a>
+        ensures { result ≡ self.now }
+    {
+        WordIter::of(self.text)
+    }
 }
 
 /// The words of a text, one after another. Contracts see the list of those that are left.
@@ -62,6 +114,35 @@ impl<'a> WordIter<'a> {
     {
         self.text
     }
+
+    /// Whether no word is left.
+    pub fn is_empty(&self) -> bool
+        ensures { result ≡ (length self.now == 0) }
+    {
+        first_word(self.text).is_none()
+    }
+
+    /// Takes the next word if it is a key. Where it is none, or no word is left, nothing is taken.
+    pub fn next_key(&mut self) -> Option<KeyRef<'a>>
+        ensures read { part_read (one key_word) self.old ≡ option_map (λ key. (key, self.new)) result }
+        ensures kept { IfNone result (self.new ≡ self.old) }
+    {
+        let (key, behind) = first_key(self.text)?;
+        self.text = behind;
+        Some(key)
+    }
+
+    /// Takes the next word if it is a number of at most `most`, of 1 to 20 decimal digits. Where it is none, or no word
+    /// is left, nothing is taken.
+    pub fn next_number(&mut self, most: u64) -> Option<u64>
+        ensures read { part_read (one (number_below (most + 1))) self.old ≡ option_map (λ n. (n, self.new)) result }
+        ensures kept { IfNone result (self.new ≡ self.old) }
+        ensures fits { IfSome result (λ n. n ≤ most) }
+    {
+        let (number, behind) = first_number(self.text, most)?;
+        self.text = behind;
+        Some(number)
+    }
 }
 
 impl<'a> Iterator for WordIter<'a> {
@@ -78,22 +159,77 @@ impl<'a> Iterator for WordIter<'a> {
     }
 }
 
+// The first word of a text as a key, and the text behind it. The word ends where its first byte is that no key has.
+fn first_key(text: &[u8]) -> Option<(KeyRef<'_>, &[u8])>
+    ensures { option_map (λ read. (read.0, words read.1.now)) result ≡ part_read (one key_word) (words text.now) }
+{
+    let (_, text) = text.split_at(first_other(text)?);
+    let len = key_len(text);
+    let (key, behind) = text.split_at(len);
+    if len <= MAX_KEY_BYTES && ends_word(behind) {
+        Some((KeyRef::of(key), behind))
+    } else {
+        None
+    }
+}
+
+// The first word of a text as a number, and the text behind it. (Nearly all numbers have few digits.)
+fn first_number(text: &[u8], most: u64) -> Option<(u64, &[u8])>
+    ensures read { option_map (λ read. (read.0, words read.1.now)) result ≡ part_read (one (number_below (most + 1))) (words text.now) }
+    ensures fits { IfSome result (λ read. read.0 ≤ most) }
+{
+    let (_, word) = text.split_at(first_other(text)?);
+    let (number, len) = front_number(word);
+    let (_, behind) = word.split_at(len);
+    if ends_word(behind) {
+        if number <= most {
+            Some((number, behind))
+        } else {
+            None
+        }
+    } else {
+        first_long_number(text, most)
+    }
+}
+
+// The same, where the word is more than its first digits.
+fn first_long_number(text: &[u8], most: u64) -> Option<(u64, &[u8])>
+    ensures read { option_map (λ read. (read.0, words read.1.now)) result ≡ part_read (one (number_below (most + 1))) (words text.now) }
+    ensures fits { IfSome result (λ read. read.0 ≤ most) }
+{
+    let (word, behind) = first_word(text)?;
+    let number = read_number(word, most)?;
+    Some((number, behind))
+}
+
+// Whether what stands behind bytes of a word is none of them: it begins with a space, or is empty.
+fn ends_word(behind: &[u8]) -> bool
+    ensures { result ≡ position_or_len is_space behind.now == 0 }
+{
+    match behind {
+        [] => true,
+        [first, ..] => *first == b' ',
+    }
+}
+
 /// Keys that stand in a line or block, separated by spaces. Contracts see the list of them, in order.
 #[derive(Drop)]
 pub struct KeyWords<'a> {
-    text: &'a [u8],
+    // The first key, so that a single one is not looked for again.
+    first: Option<&'a [u8]>,
+    behind: &'a [u8],
     count: u32,
 }
 
 impl<'a> Model for KeyWords<'a> {
     ghost use Rattle.std.specs.Prelude.{◌≡◌, List, ℕ, length};
-    ghost use Rattle.arc_core.specs.Words.{words, AreKeys};
+    ghost use Rattle.arc_core.specs.Words.{words_from, AreKeys};
 
     ghost Value = { List (List ℕ) };
 
-    ghost view = { λ keys. words keys.text.now };
+    ghost view = { λ keys. words_from keys.first keys.behind.now };
 
-    ghost invariant = { λ keys. AreKeys (words keys.text.now) × (keys.count ≡ length (words keys.text.now)) };
+    ghost invariant = { λ keys. AreKeys (words_from keys.first keys.behind.now) × (keys.count ≡ length (words_from keys.first keys.behind.now)) };
 }
 
 impl<'a> KeyWords<'a> {
@@ -103,9 +239,9 @@ impl<'a> KeyWords<'a> {
     pub fn read(block: &'a [u8], number: u32) -> Option<KeyWords<'a>>
         ensures { result ≡ keys_counted number (words block.now) }
     {
-        let count = count_keys(block, number)?;
-        if count == number {
-            Some(KeyWords { text: block, count })
+        let keys = keys_within(block, number)?;
+        if keys.count() == number {
+            Some(keys)
         } else {
             None
         }
@@ -117,12 +253,8 @@ impl<'a> KeyWords<'a> {
     pub fn up_to(text: &'a [u8], most: u32) -> Option<KeyWords<'a>>
         ensures { result ≡ keys_up_to most (words text.now) }
     {
-        let count = count_keys(text, most)?;
-        if count == 0 {
-            None
-        } else {
-            Some(KeyWords { text, count })
-        }
+        let keys = keys_within(text, most)?;
+        if keys.count() == 0 { None } else { Some(keys) }
     }
 
     /// How many keys there are.
@@ -134,44 +266,68 @@ impl<'a> KeyWords<'a> {
     }
 
     /// The keys in order.
-    pub fn iter(&self) -> KeyIter<'_>
+    pub fn iter(&self) -> KeyIter<'a>
         ensures { result ≡ self.now }
     {
         KeyIter {
-            words: WordIter::of(self.text),
+            first: self.first,
+            words: WordIter::of(self.behind),
         }
     }
 }
 
-// How many words there are, where there are at most so many and each is a key.
-fn count_keys(text: &[u8], most: u32) -> Option<u32>
-    ensures { result ≡ key_count most (words text.now) }
+// The words of a text, where there are at most so many and each is a key.
+fn keys_within(text: &[u8], most: u32) -> Option<KeyWords<'_>>
+    ensures { result ≡ at_most_keys most (words text.now) }
 {
-    let mut count = 0;
-    for word in WordIter::of(text) {
-        if count == most || KeyRef::read(word).is_err() {
-            return None;
-        }
-        count += 1;
+    let mut words = WordIter::of(text);
+    let Some(first) = words.next_key() else {
+        return words.is_empty().then_some(KeyWords {
+            first: None,
+            behind: &[],
+            count: 0,
+        });
+    };
+    if most == 0 {
+        return None;
     }
-    Some(count)
+    let behind = words.text();
+    let more = count_keys(words, most - 1)?;
+    Some(KeyWords {
+        first: Some(first.bytes()),
+        behind,
+        count: 1 + more,
+    })
+}
+
+// How many words are left, where there are at most so many and each is a key.
+fn count_keys(mut words: WordIter<'_>, most: u32) -> Option<u32>
+    ensures { result ≡ key_count most words.entry }
+{
+    for count in 0..most {
+        let Some(_) = words.next_key() else {
+            return words.is_empty().then_some(count);
+        };
+    }
+    words.is_empty().then_some(most)
 }
 
 /// Keys of a line or block, one after another. Contracts see the list of those that are left.
 #[derive(Drop)]
 pub struct KeyIter<'a> {
+    first: Option<&'a [u8]>,
     words: WordIter<'a>,
 }
 
 impl<'a> Model for KeyIter<'a> {
     ghost use Rattle.std.specs.Prelude.{List, ℕ};
-    ghost use Rattle.arc_core.specs.Words.{AreKeys};
+    ghost use Rattle.arc_core.specs.Words.{AreKeys, words_left};
 
     ghost Value = { List (List ℕ) };
 
-    ghost view = { λ keys. keys.words };
+    ghost view = { λ keys. words_left keys.first keys.words };
 
-    ghost invariant = { λ keys. AreKeys keys.words };
+    ghost invariant = { λ keys. AreKeys (words_left keys.first keys.words) };
 }
 
 impl<'a> Iterator for KeyIter<'a> {
@@ -182,6 +338,9 @@ impl<'a> Iterator for KeyIter<'a> {
     ghost remaining = { item_count (λ left. left) };
 
     fn next(&mut self) -> Option<KeyRef<'a>> {
-        self.words.next().map(KeyRef::of)
+        match self.first.take() {
+            Some(first) => Some(KeyRef::of(first)),
+            None => self.words.next().map(KeyRef::of),
+        }
     }
 }

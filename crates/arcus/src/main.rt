@@ -1,22 +1,35 @@
 //! The program: gives the process's words, input, output and clock to the top call, and tells how it ended.
 #![tactic(auto)]
 
-ghost use Rattle.std.specs.Prelude.{IfErr};
-ghost use Rattle.arcus.specs.Refusals.{IsRefusal};
+ghost use Rattle.std.specs.Prelude.{◌≡◌, drop, MatchResult};
+ghost use Rattle.std.specs.Process.{exit_status as code_of};
+ghost use Rattle.arcus.specs.Refusals.{refusal_of};
+ghost use Rattle.arcus_tool.specs.Words.{exit_status};
+ghost use Rattle.arcus_tool.specs.declared.status.Status.TheVariants as status;
 
 use arcus_tool::{Status, StdSink, StdSource, WallClock, World, run};
+use std::alloc::Global;
+use std::env;
 use std::io::{self, ErrorKind};
 use std::process::ExitCode;
 
 // The words after the program's name. `BadWords(0)` comes where a word is no text, `NoMemory` where memory was refused.
-fn words(rt: &HostRuntime) -> Result<Vec<String>, Status>
-    ensures { IfErr result IsRefusal }
-{
-    let args = match std::env::args(rt) {
+fn words(rt: &HostRuntime) -> Result<Vec<String>, Status> {
+    let args = match env::args(rt) {
         Ok(args) => args,
         Err(error) => return Err(refusal(error.kind())),
     };
-    match args.skip(1).collect(rt.alloc()) {
+    match args.collect(rt.alloc()) {
+        Ok(all) => behind_the_first(rt.alloc(), all),
+        Err(_) => Err(Status::NoMemory),
+    }
+}
+
+// The words behind the first, which is the program's name.
+fn behind_the_first(alloc: Global, all: Vec<String>) -> Result<Vec<String>, Status>
+    ensures { MatchResult result (λ words. words.items ≡ drop 1 all.items) (λ ended. ended ≡ status.NoMemory) }
+{
+    match all.into_iter().skip(1).collect(alloc) {
         Ok(words) => Ok(words),
         Err(_) => Err(Status::NoMemory),
     }
@@ -24,7 +37,7 @@ fn words(rt: &HostRuntime) -> Result<Vec<String>, Status>
 
 // How the program ends where its words cannot be had, by the kind of the fault.
 fn refusal(kind: ErrorKind) -> Status
-    ensures { IsRefusal result }
+    ensures { result ≡ refusal_of kind }
 {
     match kind {
         ErrorKind::OutOfMemory => Status::NoMemory,
@@ -32,7 +45,7 @@ fn refusal(kind: ErrorKind) -> Status
     }
 }
 
-fn status(rt: &HostRuntime) -> Status {
+fn run_here(rt: &HostRuntime) -> Status {
     let words = match words(rt) {
         Ok(words) => words,
         Err(status) => return status,
@@ -46,11 +59,18 @@ fn status(rt: &HostRuntime) -> Status {
     run(rt.alloc(), &words, &mut world)
 }
 
+// What the process ends with: the number of the status.
+fn exit_code(status: Status) -> ExitCode
+    ensures { code_of result ≡ exit_status status }
+{
+    ExitCode::from(status.exit_status())
+}
+
 fn main(rt: HostRuntime) -> ExitCode {
-    let status = status(&rt);
+    let status = run_here(&rt);
     if status != Status::Done {
         // Where standard error takes nothing, the exit status still tells.
         let _told = eprintln!(rt; "{status}");
     }
-    ExitCode::from(status.exit_status())
+    exit_code(status)
 }

@@ -162,12 +162,12 @@ const UNKNOWN: [&str; 14] = [
 fn bad_lines_are_answered(rt: HostRuntime) -> Result<(), Fail> {
     for line in BAD_FORMAT {
         let input = format!(in rt.alloc(); "{line}|version|")?;
-        let output = "CLIENT_ERROR bad command line format|VERSION arcus-profile-1|";
+        let output = "CLIENT_ERROR bad command line format|VERSION arcus-profile-2|";
         expect(&rt, rt.alloc(), DEFAULT, &input, output, Status::Done)?;
     }
     for line in UNKNOWN {
         let input = format!(in rt.alloc(); "{line}|version|")?;
-        let output = "ERROR unknown command|VERSION arcus-profile-1|";
+        let output = "ERROR unknown command|VERSION arcus-profile-2|";
         expect(&rt, rt.alloc(), DEFAULT, &input, output, Status::Done)?;
     }
     Ok(())
@@ -214,11 +214,11 @@ const ANSWERED: [(&str, &str); 53] = [
     ("set ключ 0 0 2|ж|get ключ|", "STORED|VALUE ключ 0 2|ж|END|"),
     (
         "set a 0 0 1|x|mget 1048576 1|{1048575 }a|version|",
-        "STORED|VALUE a 0 1|x|END|VERSION arcus-profile-1|",
+        "STORED|VALUE a 0 1|x|END|VERSION arcus-profile-2|",
     ),
     (
         "mget 1048577 1|{1048576 }a|version|",
-        "CLIENT_ERROR too large value|VERSION arcus-profile-1|",
+        "CLIENT_ERROR too large value|VERSION arcus-profile-2|",
     ),
     // noreply is a word like others where it is none.
     ("get noreply|", "END|"),
@@ -256,48 +256,48 @@ const ANSWERED: [(&str, &str); 53] = [
     // too long by one.
     (
         "mget 3 2|abc|version|",
-        "CLIENT_ERROR bad data chunk|VERSION arcus-profile-1|",
+        "CLIENT_ERROR bad data chunk|VERSION arcus-profile-2|",
     ),
     (
         "mget 3 1|a b|version|",
-        "CLIENT_ERROR bad data chunk|VERSION arcus-profile-1|",
+        "CLIENT_ERROR bad data chunk|VERSION arcus-profile-2|",
     ),
     (
         "mget 3 1|a\tb|version|",
-        "CLIENT_ERROR bad data chunk|VERSION arcus-profile-1|",
+        "CLIENT_ERROR bad data chunk|VERSION arcus-profile-2|",
     ),
     (
         "mget 4 2|a|b|version|",
-        "CLIENT_ERROR bad data chunk|VERSION arcus-profile-1|",
+        "CLIENT_ERROR bad data chunk|VERSION arcus-profile-2|",
     ),
     (
         "mget 16001 1|{16001k}|version|",
-        "CLIENT_ERROR bad data chunk|VERSION arcus-profile-1|",
+        "CLIENT_ERROR bad data chunk|VERSION arcus-profile-2|",
     ),
     (
         "mget 3 1|   |version|",
-        "CLIENT_ERROR bad data chunk|VERSION arcus-profile-1|",
+        "CLIENT_ERROR bad data chunk|VERSION arcus-profile-2|",
     ),
     (
         "mget 1 1|ab|version|",
-        "CLIENT_ERROR bad data chunk|ERROR unknown command|VERSION arcus-profile-1|",
+        "CLIENT_ERROR bad data chunk|ERROR unknown command|VERSION arcus-profile-2|",
     ),
     (
         "set a 0 0 1|x|mget 6 3|  a a |version|",
-        "STORED|CLIENT_ERROR bad data chunk|VERSION arcus-profile-1|",
+        "STORED|CLIENT_ERROR bad data chunk|VERSION arcus-profile-2|",
     ),
     (
         "set a 0 0 1|x|mget 6 2|  a a |version|",
-        "STORED|VALUE a 0 1|x|VALUE a 0 1|x|END|VERSION arcus-profile-1|",
+        "STORED|VALUE a 0 1|x|VALUE a 0 1|x|END|VERSION arcus-profile-2|",
     ),
     // A head with noreply has no text, whatever happens to it.
     (
         "set a 0 0 1 noreply|xyzversion|",
-        "VERSION arcus-profile-1|",
+        "VERSION arcus-profile-2|",
     ),
     (
         "set a 0 0 1 noreply|xy|version|",
-        "ERROR unknown command|VERSION arcus-profile-1|",
+        "ERROR unknown command|VERSION arcus-profile-2|",
     ),
     ("set a 0 0 1048577 noreply|{1048577x}|get a|", "END|"),
     (
@@ -314,7 +314,7 @@ const ANSWERED: [(&str, &str); 53] = [
     ),
     (
         "set a 0 0 1048576|{1048576x}|append a 0 0 1 noreply|y|version|",
-        "STORED|VERSION arcus-profile-1|",
+        "STORED|VERSION arcus-profile-2|",
     ),
     (
         "delete a noreply|delete a 0 noreply|touch a 0 noreply|incr a 1 noreply|flush_all noreply|get a|",
@@ -365,7 +365,7 @@ const CUT: [(&str, &str, Status); 15] = [
     (" ", "", Status::CutInput(1)),
     (
         "version|get a",
-        "VERSION arcus-profile-1|",
+        "VERSION arcus-profile-2|",
         Status::CutInput(5),
     ),
     (
@@ -441,7 +441,7 @@ fn retrievals_name_up_to_1000_keys(rt: HostRuntime) -> Result<(), Fail> {
             add_text(&mut wanted, "VALUE k 0 0||")?;
         }
         add_text(&mut wanted, ending)?;
-        add_text(&mut wanted, "VERSION arcus-profile-1|")?;
+        add_text(&mut wanted, "VERSION arcus-profile-2|")?;
         expect_bytes(&rt, text, played.sink.bytes(), &wanted);
         assert_eq!(rt; played.status, Status::Done);
     }

@@ -6,7 +6,7 @@ use std::test::Fail;
 
 // What is typed, and what comes back.
 const CONVERSATION: [(&str, &str); 35] = [
-    ("version|", "VERSION arcus-profile-1|"),
+    ("version|", "VERSION arcus-profile-2|"),
     ("set greeting 7 0 5|hello|", "STORED|"),
     ("get greeting|", "VALUE greeting 7 5|hello|END|"),
     // Commands are written in lower case.

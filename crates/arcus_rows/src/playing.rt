@@ -1,5 +1,6 @@
 //! The top call over an outside that is given and handed back.
 ghost use Rattle.std.specs.Prelude.{◌≡◌, map, string_bytes};
+ghost use Rattle.arc_core.specs.Outside.{incoming, outgoing};
 ghost use Rattle.arcus_tool.specs.Session.{outside};
 ghost use Rattle.arcus_tool.specs.Words.{Runs};
 
@@ -32,8 +33,9 @@ pub fn play<S: Source, K: Sink, C: Clock>(
     clock: C,
 ) -> Played<S, K, C>
     ensures { Runs (map string_bytes words.now)
-        (outside (S.left source) (S.read_faults source) (K.sent sink) (K.write_faults sink) (K.refusals sink) (C.coming clock))
-        (outside (S.left result.source) (S.read_faults result.source) (K.sent result.sink) (K.write_faults result.sink) (K.refusals result.sink) (C.coming result.clock))
+        (outside (incoming (S.left source) (S.read_faults source)) (outgoing (K.sent sink) (K.write_faults sink) (K.refusals sink)) (C.coming clock))
+        (outside (incoming (S.left result.source) (S.read_faults result.source))
+        (outgoing (K.sent result.sink) (K.write_faults result.sink) (K.refusals result.sink)) (C.coming result.clock))
         result.status }
 {
     let mut world = World {

@@ -13,7 +13,7 @@ fn texts_go_out_together(rt: HostRuntime) -> Result<(), Fail> {
         ..DEFAULT
     };
     let input = "set a 5 0 3|abc|get a|bad|version|";
-    let output = "STORED|VALUE a 5 3|abc|END|ERROR unknown command|VERSION arcus-profile-1|";
+    let output = "STORED|VALUE a 5 3|abc|END|ERROR unknown command|VERSION arcus-profile-2|";
     expect(&rt, rt.alloc(), one_push, input, output, Status::Done)?;
     // Also what is answered before the session ends.
     let input = "set a 5 0 3|abc|get a|quit|";
@@ -21,7 +21,7 @@ fn texts_go_out_together(rt: HostRuntime) -> Result<(), Fail> {
     expect(&rt, rt.alloc(), one_push, input, output, Status::Done)?;
     // The line's text comes behind a later pull.
     let input = "version|{65536x}";
-    let front = "VERSION arcus-profile-1|";
+    let front = "VERSION arcus-profile-2|";
     expect(&rt, rt.alloc(), one_push, input, front, Status::WriteFault)?;
     Ok(())
 }
@@ -59,7 +59,7 @@ fn texts_wait_up_to_16384_bytes(rt: HostRuntime) -> Result<(), Fail> {
     for number in 0..1_000 {
         add_text(&mut input, "version|")?;
         if number < 655 {
-            add_text(&mut output, "VERSION arcus-profile-1|")?;
+            add_text(&mut output, "VERSION arcus-profile-2|")?;
         }
     }
     let one_push = Setting {
@@ -90,7 +90,7 @@ fn long_values_go_out_alone(rt: HostRuntime) -> Result<(), Fail> {
         front,
         Status::WriteFault,
     )?;
-    let whole = "STORED|VALUE a 0 16385|{16385x}|END|VERSION arcus-profile-1|";
+    let whole = "STORED|VALUE a 0 16385|{16385x}|END|VERSION arcus-profile-2|";
     expect(&rt, rt.alloc(), DEFAULT, input, whole, Status::Done)?;
     let seven = Setting {
         takes: 7,

@@ -77,6 +77,44 @@ const ROWS_OF_ONE_MIB: [(&str, &str); 3] = [
     ),
 ];
 
+// The words, what is sent and what is answered, on a cache of 1 MiB with a share for sticky items.
+const ROWS_OF_SHARES: [(&[&str], &str, &str); 4] = [
+    // Half of the limit: a takes 500,065 of 524,288 bytes, and b fits with 24,223 and not with 24,224. A touch that would
+    // pass the share is refused, and one that leaves it makes room.
+    (
+        &["session", "--limit", "1", "--sticky", "50"],
+        "set a 0 -1 500000|{500000x}|set b 0 -1 24159|{24159y}|set b 0 -1 24158|{24158y}|set c 0 0 0||touch c -1|touch a 0|touch c -1|get c|",
+        "STORED|SERVER_ERROR out of memory|STORED|STORED|SERVER_ERROR out of memory|TOUCHED|TOUCHED|VALUE c 0 0||END|",
+    ),
+    // No share at all.
+    (
+        &["session", "--sticky=0", "--limit=1"],
+        "set a 0 -1 0||get a|set a 0 0 0||touch a -1|get a|",
+        "SERVER_ERROR out of memory|END|STORED|SERVER_ERROR out of memory|VALUE a 0 0||END|",
+    ),
+    // A sticky item that takes the place of another is charged what it is larger.
+    (
+        &["session", "--sticky", "50", "--limit", "1"],
+        "set a 0 -1 500000|{500000x}|set a 0 -1 524223|{524223y}|set a 0 -1 524224|{524224z}|incr a 1|append a 0 0 1|y|",
+        "STORED|STORED|SERVER_ERROR out of memory|CLIENT_ERROR cannot increment or decrement non-numeric value|SERVER_ERROR out of memory|",
+    ),
+    // The share is no limit of the others, and evicting them makes no room in it.
+    (
+        &["session", "--limit=1", "--sticky=50"],
+        "set a 0 0 600000|{600000x}|set b 0 -1 524224|{524224y}|set b 0 -1 100000|{100000y}|get a|set b 0 -1 500000|{500000y}|get a|",
+        "STORED|SERVER_ERROR out of memory|STORED|VALUE a 0 600000|{600000x}|END|STORED|END|",
+    ),
+];
+
+#[test]
+fn sticky_items_keep_to_their_share(rt: HostRuntime) -> Result<(), Fail> {
+    for (words, input, output) in ROWS_OF_SHARES {
+        let setting = Setting { words, ..DEFAULT };
+        expect(&rt, rt.alloc(), setting, input, output, Status::Done)?;
+    }
+    Ok(())
+}
+
 #[test]
 fn each_row_is_answered(rt: HostRuntime) -> Result<(), Fail> {
     for (input, output) in ROWS {
@@ -150,7 +188,7 @@ fn faults_end_the_session(rt: HostRuntime) -> Result<(), Fail> {
 
 #[test]
 fn other_words_are_refused(rt: HostRuntime) -> Result<(), Fail> {
-    let rows: [(&[&str], usize); 9] = [
+    let rows: [(&[&str], usize); 12] = [
         (&[], 0),
         (&["sessions"], 0),
         (&["--limit", "1"], 0),
@@ -160,6 +198,9 @@ fn other_words_are_refused(rt: HostRuntime) -> Result<(), Fail> {
         (&["session", "--limit", "4097"], 2),
         (&["session", "--limit=064"], 1),
         (&["session", "--limit", "1", "--limit", "1"], 3),
+        (&["session", "--sticky"], 2),
+        (&["session", "--sticky", "101"], 2),
+        (&["session", "--sticky=50", "--limit=1", "--sticky=50"], 3),
     ];
     for (words, place) in rows {
         let setting = Setting { words, ..DEFAULT };
@@ -235,7 +276,7 @@ const TIMES: [(&[u32], &str, &str); 9] = [
     (
         &[1000, 1010, 5],
         "set a 0 10 1|x|version|get a|",
-        "STORED|VERSION arcus-profile-1|END|",
+        "STORED|VERSION arcus-profile-2|END|",
     ),
     // touch gives a new expiry, and an expired item is none.
     (

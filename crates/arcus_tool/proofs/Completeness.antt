@@ -6,7 +6,7 @@ use Rattle.std.proofs.lemmas.List.{append-nil}
 use Rattle.std.proofs.lemmas.List.Elements.{All-nil}
 use Rattle.arc_core.specs.declared.outside.Need.{Need}
 use Rattle.arc_core.specs.CacheState.{CacheState}
-use Rattle.arc_core.specs.Framing.{Whole, IsSpan, IsRest, IsLast, BeginsWith, line, line_with_block, bad_chunk, too_large, block_no_memory, line_too_long}
+use Rattle.arc_core.specs.Framing.{Whole, IsSpan, IsRest, BeginsWith, line, line_with_block, bad_chunk, too_large, block_no_memory, line_too_long}
 use Rattle.arc_core.specs.Grammar.{line_needs}
 use Rattle.arc_core.specs.Outside.{first_then}
 use Rattle.arc_core.specs.SessionText.{IsQuitUnit}
@@ -99,16 +99,6 @@ none_before [] unit more only = tt
 none_before (first ∷ []) unit more only = (only.0, tt)
 none_before (first ∷ second ∷ front) unit more only = (only.0, none_before (second ∷ front) unit more only.1)
 
--- behind units of which none is too long a line stands an unfinished unit
-rest_of : (needs : List ℕ → Need) (units : List Whole) (tail : List ℕ) → NoneFinal units → IsLast needs units tail → IsRest needs tail
-rest_of needs [] tail none last = last
-rest_of needs (line text ∷ units) tail none last = rest_of needs units tail none.1 last
-rest_of needs (line_with_block text block ∷ units) tail none last = rest_of needs units tail none.1 last
-rest_of needs (bad_chunk text ∷ units) tail none last = rest_of needs units tail none.1 last
-rest_of needs (too_large text ∷ units) tail none last = rest_of needs units tail none.1 last
-rest_of needs (block_no_memory text ∷ units) tail none last = rest_of needs units tail none.1 last
-rest_of needs (line_too_long ∷ units) tail none last = absurd (none.0 (inl refl))
-
 no_bytes : IsRest line_needs []
 no_bytes = inl (omega arith, All-nil (λ b. b ≢ 10))
 
@@ -198,20 +188,20 @@ module _ (agree_law : BeginningsAgree) (rest_law : RestBeginsWithNoUnit) (stay_l
   is_complete opening before after status.ReadFault session = λ input told whole short reads writes. absurd (reads session.ends.fault)
   is_complete opening before after status.WriteFault session = λ input told whole short reads writes. absurd (writes session.ends.fault)
   is_complete opening before after status.LongInput session = λ input told whole short reads writes.
-      let part = taken_of session.taken input after.left (sym told ∙ session.took) in
+      let part = taken_of session.taken input after.incoming.left (sym told ∙ session.took) in
       let all : length session.taken ≡ 2 ^ 40 = session.ends.all_taken in
       let long : length input ≡ length session.taken + length part.0 = ap length part.2 ∙ length-append session.taken part.0 in
       absurd (omega arith)
   is_complete opening before after (status.CutInput rest) session = λ input told whole short reads writes.
-      let part = taken_of session.taken input after.left (sym told ∙ session.took) in
+      let part = taken_of session.taken input after.incoming.left (sym told ∙ session.took) in
       let ends : EndsCut rest before after session.taken session.units session.tail session.text = session.ends in
       let ended : part.0 ≡ [] = subst (λ l. IfSome l (λ bytes. bytes ≡ [])) part.1 ends.read.ended in
       let all : input ≡ session.taken = part.2 ∙ ap (λ m. session.taken ++ m) ended ∙ append-nil session.taken in
       let spans : BeginsWith line_needs input session.units session.tail = subst (λ b. BeginsWith line_needs b session.units session.tail) (sym all) session.spans in
-      absurd (no_cut input session.units session.tail spans ends.none_final (rest_of line_needs session.units session.tail ends.none_final ends.no_more) (omega (arith, ends.came, ends.within_a_unit)) whole)
+      absurd (no_cut input session.units session.tail spans ends.handled.none_final ends.handled.unfinished (omega (arith, ends.came, ends.within_a_unit)) whole)
   is_complete opening before after status.LineTooLong session = λ input told whole short reads writes.
-      let part = taken_of session.taken input after.left (sym told ∙ session.took) in
-      let ends : EndsAtLongLine before after session.taken session.units session.text = session.ends in
+      let part = taken_of session.taken input after.incoming.left (sym told ∙ session.took) in
+      let ends : EndsAtLongLine before after session.taken session.units session.tail session.text = session.ends in
       let spans : BeginsWith line_needs input session.units (session.tail ++ part.0) =
       subst (λ b. BeginsWith line_needs b session.units (session.tail ++ part.0)) (sym part.2) (stay_law line_needs session.taken session.units session.tail part.0 session.spans) in
       absurd (no_long_line input session.units (session.tail ++ part.0) spans session.last ends.too_long whole)

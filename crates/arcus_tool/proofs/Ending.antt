@@ -1,271 +1,251 @@
--- What one pull does to a session.
-use Rattle.std.proofs.Common.{◌≡◌, ◌≤◌, ◌<◌, ◌^◌, ℕ, List, [], ◌∷◌, ◌++◌, length, Option, Some, None, refl, sym, ap, ◌∙◌, subst, append_assoc, arith, inl, inr}
+-- How a session goes on, and how it is over.
+use Rattle.std.proofs.Common.{◌≡◌, ◌≤◌, ◌<◌, ◌^◌, ℕ, List, [], ◌∷◌, ◌++◌, length, Option, Some, None, Ok, Err, refl, sym, ap, ◌∙◌, subst, append_assoc, arith, inl, inr}
 use Rattle.std.specs.Prelude.{MatchOption, IfSome}
 use Rattle.std.proofs.lemmas.List.{append-nil}
 use Rattle.arc_core.specs.declared.outside.Need.{Need}
-use Rattle.arc_core.specs.Outside.{Rose, first_then, CameToEnd, FailedToPull}
-use Rattle.arc_core.specs.Framing.{Whole, IsSpan, IsRest, IsLast, line, line_with_block, bad_chunk, too_large, block_no_memory, line_too_long}
+use Rattle.arc_core.specs.Outside.{Rose, Incoming, Outgoing, first_then, sent_more, CameToEnd, FailedToPull}
+use Rattle.arc_core.specs.Framing.{Whole, IsSpan, IsRest}
 use Rattle.arc_core.specs.Grammar.{line_needs}
 use Rattle.arc_core.specs.CacheState.{CacheState}
+use Rattle.arc_core.specs.SessionText.{IsQuitUnit}
 use Rattle.frame_reader.specs.Progress.{Progress, StandsFor, ready_unit}
-use Rattle.arcus_tool.specs.Output.{TookNothing}
-use Rattle.arcus_tool.specs.Handling.{Stand, stand, Went, GoesOn, Stops, BrokeOff, NoneFinal}
+use Rattle.arcus_tool.specs.Output.{HasCause}
+use Rattle.arcus_tool.specs.Waiting.{Grew, Flushes}
+use Rattle.arcus_tool.specs.Handling.{Stand, stand, Went, GoesOn, StopsAt, BrokeOff, NoneFinal, OnlyLastFinal, IsTooLong}
+use Rattle.arcus_tool.specs.declared.stops.Stop.{Stop}
 use Rattle.arcus_tool.specs.declared.stops.Stop.TheVariants as stop
+use Rattle.arcus_tool.specs.declared.status.Status.{Status}
 use Rattle.arcus_tool.specs.declared.status.Status.TheVariants as status
-use Rattle.arcus_tool.specs.Session.{Outside, outside, IsSession, RanSoFar, start_of, status_at_end, Ends, ReadToEnd, SentWhole, CountsOnly, SameReads, SameWrites, SameRefusals}
+use Rattle.arcus_tool.specs.Session.{Outside, outside, IsSession, RanSoFar, CameTo, start_of, status_at_end, Ends, ReadToEnd, SentWhole, HandledAll, CountsOnly, SameReads, SameWrites, SameRefusals, IsOver, Finishes, status_of}
 use Rattle.arcus_tool.proofs.Histories.{spans_more, only_of_none}
 use Rattle.arcus_tool.proofs.Going.{went_by}
+use Rattle.arcus_tool.proofs.Flushing.{broke_waiting, broke_at_flush}
 
 -- one piece and then another
 first_on : (a b : List ℕ) (rest : Option (List ℕ)) → first_then a (first_then b rest) ≡ first_then (a ++ b) rest
 first_on a b None = refl
 first_on a b (Some rest) = ap Some (sym (append_assoc a b rest))
 
--- where no unit is too long and the tail is unfinished, the cut is at its end
-last_rest : (needs : List ℕ → Need) (units : List Whole) (tail : List ℕ) → NoneFinal units → IsRest needs tail → IsLast needs units tail
-last_rest needs [] tail none rest = rest
-last_rest needs (line text ∷ units) tail none rest = last_rest needs units tail none.1 rest
-last_rest needs (line_with_block text block ∷ units) tail none rest = last_rest needs units tail none.1 rest
-last_rest needs (bad_chunk text ∷ units) tail none rest = last_rest needs units tail none.1 rest
-last_rest needs (too_large text ∷ units) tail none rest = last_rest needs units tail none.1 rest
-last_rest needs (block_no_memory text ∷ units) tail none rest = last_rest needs units tail none.1 rest
-last_rest needs (line_too_long ∷ units) tail none rest = absurd (none.0 (inl refl))
-
 -- more bytes came, and stand behind what the reader has taken
-pub went_more : (from to : Stand) (taken : List ℕ) (units : List Whole) (tail more : List ℕ) → Went from to taken units tail → Went from to (taken ++ more) units (tail ++ more)
+went_more : (from to : Stand) (taken : List ℕ) (units : List Whole) (tail more : List ℕ) → Went from to taken units tail → Went from to (taken ++ more) units (tail ++ more)
 went_more from to taken units tail more went = record {
   entries = went.entries;
   text = went.text;
   spans = spans_more line_needs taken units tail more went.spans;
   tells = went.tells;
   executed = went.executed;
-  sent = went.sent;
-  same_faults = went.same_faults;
-  same_refusals = went.same_refusals;
+  out = went.out;
 }
 
-pub goes_more : (from to : Stand) (taken : List ℕ) (progress : Progress) (piece : List ℕ) → GoesOn from to taken progress [] → GoesOn from to (taken ++ piece) progress piece
+goes_more : (from to : Stand) (taken : List ℕ) (progress : Progress) (piece : List ℕ) → GoesOn from to taken progress [] → GoesOn from to (taken ++ piece) progress piece
 goes_more from to taken progress piece goes =
     (goes.0, goes.1, went_more from to taken goes.0 goes.1 piece (went_by from to taken goes.0 (goes.1 ++ []) goes.1 (append-nil goes.1) goes.2), goes.3, goes.4)
 
--- a pull sends nothing
-pub ran_pulled : (opening : CacheState) (before : Outside) (state : CacheState) (coming sent sent' : Option (List ℕ)) (faults faults' refusals refusals' : ℕ) (left : Option (List ℕ)) (read_faults : ℕ) (progress : Progress) (taken : List ℕ)
-    → sent' ≡ sent → faults' ≡ faults → refusals' ≡ refusals
-    → RanSoFar opening before (stand state coming sent faults refusals) left read_faults progress taken
-    → RanSoFar opening before (stand state coming sent' faults' refusals') left read_faults progress taken
-ran_pulled opening before state coming sent sent' faults faults' refusals refusals' left read_faults progress taken s f r ran =
-    subst (λ x. RanSoFar opening before (stand state coming x faults' refusals') left read_faults progress taken) (sym s)
-    (subst (λ x. RanSoFar opening before (stand state coming sent x refusals') left read_faults progress taken) (sym f)
-    (subst (λ x. RanSoFar opening before (stand state coming sent faults x) left read_faults progress taken) (sym r) ran))
+-- a piece came behind the bytes that were taken
+pub came_to : (opening : CacheState) (before : Outside) (state : CacheState) (coming : Option (List ℕ)) (here here' : Outgoing) (incoming incoming' : Incoming) (progress : Progress) (taken piece : List ℕ)
+    → here' ≡ here → incoming.left ≡ first_then piece incoming'.left → incoming'.faults ≡ incoming.faults
+    → RanSoFar opening before (stand state coming here) incoming progress taken → CameTo opening before (stand state coming here') incoming' progress taken piece
+came_to opening before state coming here here' incoming incoming' progress taken piece same came faults ran = record {
+  took = ran.took ∙ ap (first_then taken) came ∙ first_on taken piece incoming'.left;
+  no_fault = faults ∙ ran.no_fault;
+  goes = subst (λ o. GoesOn (start_of opening before) (stand state coming o) (taken ++ piece) progress piece) (sym same) (goes_more (start_of opening before) (stand state coming here) taken progress piece ran.goes);
+}
 
--- nothing more was taken behind the piece
-pub came_since : (left left' left'' : Option (List ℕ)) (faults' faults'' : ℕ) (piece : List ℕ) → left ≡ first_then piece left' → TookNothing left' left'' faults' faults'' → left ≡ first_then piece left''
-came_since left left' left'' faults' faults'' piece came nothing = came ∙ ap (first_then piece) (sym nothing.same_left)
+module _ (opening : CacheState) (before : Outside) (state : CacheState) (coming : Option (List ℕ)) (incoming : Incoming) (taken : List ℕ)
+    (took : before.incoming.left ≡ first_then taken incoming.left) (reads : incoming.faults ≡ before.incoming.faults) where
+  -- a session that went up to here is over
+  went_over : (ended : Status) (here out : Outgoing) (units : List Whole) (tail : List ℕ) (went : Went (start_of opening before) (stand state coming here) taken units tail) → OnlyLastFinal units
+      → Ends ended before (outside incoming out coming) taken units tail went.text → CountsOnly ended before (outside incoming out coming)
+      → IsOver opening before (stand state coming here) out incoming ended
+  went_over ended here out units tail went only ends counts = λ rules. record {
+    taken = taken;
+    units = units;
+    tail = tail;
+    entries = went.entries;
+    closing = state;
+    text = went.text;
+    took = took;
+    spans = went.spans;
+    last = only;
+    tells = went.tells;
+    legal = went.executed.legal;
+    seconds = went.executed.seconds;
+    own = went.executed.own;
+    rules = rules;
+    ends = ends;
+    counts = counts;
+  }
 
-module _ (opening : CacheState) (before : Outside) (at : Stand) (left left' : Option (List ℕ)) (faults faults' : ℕ) (progress : Progress) (taken : List ℕ) (ran : RanSoFar opening before at left faults progress taken) where
-  -- the bytes that came are the next ones
-  took_more : (piece : List ℕ) → left ≡ first_then piece left' → before.left ≡ first_then (taken ++ piece) left'
-  took_more piece came = ran.took ∙ ap (first_then taken) came ∙ first_on taken piece left'
-
-  -- the session ran on by a piece
-  pub ran_on : (to : Stand) (progress' : Progress) (piece : List ℕ) → left ≡ first_then piece left' → faults' ≡ faults
-      → GoesOn (start_of opening before) to (taken ++ piece) progress' [] → RanSoFar opening before to left' faults' progress' (taken ++ piece)
-  ran_on to progress' piece came same goes = record { took = took_more piece came; no_fault = same ∙ ran.no_fault; goes = goes }
-
-  -- the session is over at a line that is too long
-  pub over_at_long_line : (to : Stand) (piece : List ℕ) → left ≡ first_then piece left' → faults' ≡ faults → length (taken ++ piece) ≤ 2 ^ 40
-      → Stops (start_of opening before) to (taken ++ piece) stop.LineTooLong → IsSession opening before (outside left' faults' to.sent to.faults to.refusals to.coming) status.LineTooLong
-  over_at_long_line to piece came same few stops =
-      let went = stops.2 in
-      record {
-        taken = taken ++ piece;
-        units = stops.0;
-        tail = stops.1;
-        entries = went.entries;
-        closing = to.state;
-        text = went.text;
-        took = took_more piece came;
-        spans = went.spans;
-        last = stops.4;
-        tells = went.tells;
-        legal = went.executed.legal;
-        seconds = went.executed.seconds;
-        own = went.executed.own;
-        ends = record { too_long = stops.3; few = few; sent = record { whole = went.sent; no_fault = went.same_faults } };
-        counts = (same ∙ ran.no_fault, went.same_faults, went.same_refusals);
-      }
-
-  -- the session is over at `quit`
-  pub over_at_quit : (to : Stand) (piece : List ℕ) → left ≡ first_then piece left' → faults' ≡ faults → length (taken ++ piece) ≤ 2 ^ 40
-      → Stops (start_of opening before) to (taken ++ piece) stop.Quit → IsSession opening before (outside left' faults' to.sent to.faults to.refusals to.coming) status.Done
-  over_at_quit to piece came same few stops =
-      let went = stops.2 in
-      record {
-        taken = taken ++ piece;
-        units = stops.0;
-        tail = stops.1;
-        entries = went.entries;
-        closing = to.state;
-        text = went.text;
-        took = took_more piece came;
-        spans = went.spans;
-        last = stops.4;
-        tells = went.tells;
-        legal = went.executed.legal;
-        seconds = went.executed.seconds;
-        own = went.executed.own;
-        ends = inr (record { quits = stops.3; few = few; sent = record { whole = went.sent; no_fault = went.same_faults } });
-        counts = (same ∙ ran.no_fault, went.same_faults, went.same_refusals);
-      }
-
-  -- the session is over at a write fault
-  pub over_at_write_fault : (to : Stand) (piece : List ℕ) → left ≡ first_then piece left' → faults' ≡ faults → length (taken ++ piece) ≤ 2 ^ 40
-      → BrokeOff (start_of opening before) to (taken ++ piece) stop.Failed → IsSession opening before (outside left' faults' to.sent to.faults to.refusals to.coming) status.WriteFault
-  over_at_write_fault to piece came same few broke = record {
-    taken = taken ++ piece;
+  -- a session that broke off at a failed push is over
+  pub over_at_write_fault : (out : Outgoing) → length taken ≤ 2 ^ 40 → BrokeOff (start_of opening before) (stand state coming out) taken stop.Failed
+      → IsOver opening before (stand state coming out) out incoming status.WriteFault
+  over_at_write_fault out few broke = λ rules. record {
+    taken = taken;
     units = broke.units;
     tail = broke.tail;
     entries = broke.entries;
-    closing = to.state;
+    closing = state;
     text = broke.text;
-    took = took_more piece came;
+    took = took;
     spans = broke.spans;
     last = broke.last;
     tells = broke.tells;
     legal = broke.executed.legal;
     seconds = broke.executed.seconds;
     own = broke.executed.own;
+    rules = rules;
     ends = record { fault = broke.has_cause.0; few = few; sent = broke.sent };
-    counts = (same ∙ ran.no_fault, broke.has_cause.1);
+    counts = (reads, broke.has_cause.1);
   }
 
-  -- the session is over where the sink was refused memory
-  pub over_without_memory : (to : Stand) (piece : List ℕ) → left ≡ first_then piece left' → faults' ≡ faults → length (taken ++ piece) ≤ 2 ^ 40
-      → BrokeOff (start_of opening before) to (taken ++ piece) stop.NoMemory → IsSession opening before (outside left' faults' to.sent to.faults to.refusals to.coming) status.NoMemory
-  over_without_memory to piece came same few broke = record {
-    taken = taken ++ piece;
+  -- a session that broke off since the sink was refused memory is over
+  pub over_without_memory : (out : Outgoing) → length taken ≤ 2 ^ 40 → BrokeOff (start_of opening before) (stand state coming out) taken stop.NoMemory
+      → IsOver opening before (stand state coming out) out incoming status.NoMemory
+  over_without_memory out few broke = λ rules. record {
+    taken = taken;
     units = broke.units;
     tail = broke.tail;
     entries = broke.entries;
-    closing = to.state;
+    closing = state;
     text = broke.text;
-    took = took_more piece came;
+    took = took;
     spans = broke.spans;
     last = broke.last;
     tells = broke.tells;
     legal = broke.executed.legal;
     seconds = broke.executed.seconds;
     own = broke.executed.own;
+    rules = rules;
     ends = record { refused = inr broke.has_cause.1; few = few; sent = broke.sent };
-    counts = (same ∙ ran.no_fault, broke.has_cause.0);
+    counts = (reads, broke.has_cause.0);
   }
 
-  -- what was taken is cut into the units that were handled and an unfinished tail
-  cut_here : ((bytes : List ℕ) → StandsFor line_needs progress bytes → IsRest line_needs bytes) → IsLast line_needs ran.goes.0 ran.goes.1
-  cut_here rest = last_rest line_needs ran.goes.0 ran.goes.1 ran.goes.4 (rest ran.goes.1 ran.goes.3)
+  module _ (out out' : Outgoing) (waiting waiting' : List ℕ) (few : length taken ≤ 2 ^ 40) where
+    -- the session is over where texts waited, or the flush was tried and failed
+    module _ (grew : Grew before.out.sent out'.sent) (units : List Whole) (tail : List ℕ) (went : Went (start_of opening before) (stand state coming (sent_more out waiting)) taken units tail) (only : OnlyLastFinal units) where
+      over_at_failed_flush : Flushes out out' waiting waiting' (Err stop.Failed) → IsOver opening before (stand state coming out') out' incoming status.WriteFault
+      over_at_failed_flush failed =
+          over_at_write_fault out' few (broke_at_flush (start_of opening before) state coming out out' waiting waiting' taken stop.Failed units tail grew went only failed)
 
-  went_here : Went (start_of opening before) at taken ran.goes.0 ran.goes.1
-  went_here = went_by (start_of opening before) at taken ran.goes.0 (ran.goes.1 ++ []) ran.goes.1 (append-nil ran.goes.1) ran.goes.2
+      over_at_refused_flush : Flushes out out' waiting waiting' (Err stop.NoMemory) → IsOver opening before (stand state coming out') out' incoming status.NoMemory
+      over_at_refused_flush refused =
+          over_without_memory out' few (broke_at_flush (start_of opening before) state coming out out' waiting waiting' taken stop.NoMemory units tail grew went only refused)
 
-  -- the session is over at a read fault
-  pub over_at_read_fault : FailedToPull left left' faults faults' → length taken < 2 ^ 40 → ((bytes : List ℕ) → StandsFor line_needs progress bytes → IsRest line_needs bytes)
-      → IsSession opening before (outside left' faults' at.sent at.faults at.refusals at.coming) status.ReadFault
-  over_at_read_fault failed short rest =
-      let went = went_here in
-      record {
-        taken = taken;
-        units = ran.goes.0;
-        tail = ran.goes.1;
-        entries = went.entries;
-        closing = at.state;
-        text = went.text;
-        took = ran.took ∙ ap (first_then taken) (sym failed.same_left);
-        spans = went.spans;
-        last = only_of_none ran.goes.0 ran.goes.4;
-        tells = went.tells;
-        legal = went.executed.legal;
-        seconds = went.executed.seconds;
-        own = went.executed.own;
-        ends = record {
-          fault = subst (λ f. Rose f faults') ran.no_fault failed.rose;
-          short = short;
-          none_final = ran.goes.4;
-          no_more = cut_here rest;
-          sent = record { whole = went.sent; no_fault = went.same_faults };
-        };
-        counts = (went.same_faults, went.same_refusals);
-      }
+      -- the session is over for the cause of a failed flush
+      over_at_flush : (cause : Stop) → Flushes out out' waiting waiting' (Err cause) → IsOver opening before (stand state coming out') out' incoming (status_of cause)
+      over_at_flush stop.Failed failed = over_at_failed_flush failed
+      over_at_flush stop.NoMemory failed = over_at_refused_flush failed
+      over_at_flush stop.LineTooLong failed = absurd failed.2
+      over_at_flush stop.Quit failed = absurd failed.2
+
+      -- the session was to end so, and what waited was sent or not
+      over_finished : (meant ended : Status) → (out' ≡ sent_more out waiting → IsOver opening before (stand state coming out') out' incoming meant)
+          → Finishes out out' waiting waiting' meant ended → IsOver opening before (stand state coming out') out' incoming ended
+      over_finished meant ended over (inl done) = subst (IsOver opening before (stand state coming out') out' incoming) (sym done.1) (over done.0.1)
+      over_finished meant ended over (inr stopped) = subst (IsOver opening before (stand state coming out') out' incoming) (sym stopped.2) (over_at_flush stopped.0 stopped.1)
+
+    -- the session is over at `quit`
+    pub over_at_quit : (ended : Status) (most : ℕ) → Grew before.out.sent out'.sent → most ≤ 16384 → StopsAt IsQuitUnit (start_of opening before) (stand state coming (sent_more out waiting)) taken most
+        → Finishes out out' waiting waiting' status.Done ended → IsOver opening before (stand state coming out') out' incoming ended
+    over_at_quit ended most grew within stops finishes =
+        let went = stops.2 in
+        over_finished grew stops.0 stops.1 went stops.4 status.Done ended (λ all.
+        let sent = all ∙ went.out in
+        went_over status.Done (sent_more out waiting) out' stops.0 stops.1 went stops.4
+        (inr (record { quits = stops.3; short_tail = omega (arith, stops.5, within); few = few; sent = sent }))
+        (reads, ap (λ o. o.faults) sent, ap (λ o. o.refusals) sent)) finishes
+
+    -- the session is over at a line that is too long
+    pub over_at_long_line : (ended : Status) (most : ℕ) → Grew before.out.sent out'.sent → most ≤ 16384 → StopsAt IsTooLong (start_of opening before) (stand state coming (sent_more out waiting)) taken most
+        → Finishes out out' waiting waiting' status.LineTooLong ended → IsOver opening before (stand state coming out') out' incoming ended
+    over_at_long_line ended most grew within stops finishes =
+        let went = stops.2 in
+        over_finished grew stops.0 stops.1 went stops.4 status.LineTooLong ended (λ all.
+        let sent = all ∙ went.out in
+        went_over status.LineTooLong (sent_more out waiting) out' stops.0 stops.1 went stops.4
+        (record { too_long = stops.3; short_tail = omega (arith, stops.5, within); few = few; sent = sent })
+        (reads, ap (λ o. o.faults) sent, ap (λ o. o.refusals) sent)) finishes
+
+    module _ (progress : Progress) (goes : GoesOn (start_of opening before) (stand state coming (sent_more out waiting)) taken progress []) (rest : (bytes : List ℕ) → StandsFor line_needs progress bytes → IsRest line_needs bytes) where
+      went_here : Went (start_of opening before) (stand state coming (sent_more out waiting)) taken goes.0 goes.1
+      went_here = went_by (start_of opening before) (stand state coming (sent_more out waiting)) taken goes.0 (goes.1 ++ []) goes.1 (append-nil goes.1) goes.2
+
+      -- what was taken is cut into the units that were handled and an unfinished tail
+      handled_all : HandledAll goes.0 goes.1
+      handled_all = record { none_final = goes.4; unfinished = rest goes.1 goes.3 }
+
+      -- the session is over where what waited was not sent before a pull
+      pub over_before_a_pull : (cause : Stop) → Grew before.out.sent out'.sent → Flushes out out' waiting waiting' (Err cause) → IsOver opening before (stand state coming out') out' incoming (status_of cause)
+      over_before_a_pull cause grew failed = over_at_flush grew goes.0 goes.1 went_here (only_of_none goes.0 goes.4) cause failed
+
+      -- the session is over at 2^40 bytes
+      pub over_at_limit : (ended : Status) → Grew before.out.sent out'.sent → length taken ≡ 2 ^ 40 → Finishes out out' waiting waiting' status.LongInput ended
+          → IsOver opening before (stand state coming out') out' incoming ended
+      over_at_limit ended grew all finishes =
+          over_finished grew goes.0 goes.1 went_here (only_of_none goes.0 goes.4) status.LongInput ended (λ gone.
+          let sent = gone ∙ went_here.out in
+          went_over status.LongInput (sent_more out waiting) out' goes.0 goes.1 went_here (only_of_none goes.0 goes.4)
+          (record { all_taken = all; handled = handled_all; sent = sent })
+          (reads, ap (λ o. o.faults) sent, ap (λ o. o.refusals) sent)) finishes
 
 -- how a session ends where the source has ended, by the bytes that came of an unfinished unit
-ends_at : (before after : Outside) (taken : List ℕ) (units : List Whole) (tail text : List ℕ) → ReadToEnd before after taken → NoneFinal units → IsLast line_needs units tail → SentWhole before after text
+ends_at : (before after : Outside) (taken : List ℕ) (units : List Whole) (tail text : List ℕ) → ReadToEnd before after taken → HandledAll units tail → SentWhole before after text
     → Ends (status_at_end tail) before after taken units tail text
-ends_at before after taken units [] text read none last sent = inl (record { read = read; behind_a_unit = refl; none_final = none; no_more = last; sent = sent })
-ends_at before after taken units (byte ∷ tail) text read none last sent = record { read = read; within_a_unit = omega arith; came = refl; none_final = none; no_more = last; sent = sent }
+ends_at before after taken units [] text read handled sent = inl (record { read = read; behind_a_unit = refl; handled = handled; sent = sent })
+ends_at before after taken units (byte ∷ tail) text read handled sent = record { read = read; within_a_unit = omega arith; came = refl; handled = handled; sent = sent }
 
 -- no count rose where the source has ended
 counts_at : (before after : Outside) (tail : List ℕ) → SameReads before after → SameWrites before after → SameRefusals before after → CountsOnly (status_at_end tail) before after
 counts_at before after [] reads writes refusals = (reads, writes, refusals)
 counts_at before after (byte ∷ tail) reads writes refusals = (reads, writes, refusals)
 
--- the session is over where the source has ended
-pub over_at_end : (opening : CacheState) (before : Outside) (at : Stand) (left left' : Option (List ℕ)) (faults faults' : ℕ) (progress : Progress) (taken : List ℕ) (ran : RanSoFar opening before at left faults progress taken)
-    → CameToEnd left left' faults faults' → length taken < 2 ^ 40 → ((bytes : List ℕ) → StandsFor line_needs progress bytes → IsRest line_needs bytes)
-    → IsSession opening before (outside left' faults' at.sent at.faults at.refusals at.coming) (status_at_end ran.goes.1)
-over_at_end opening before at left left' faults faults' progress taken ran came short rest =
-    let went = went_by (start_of opening before) at taken ran.goes.0 (ran.goes.1 ++ []) ran.goes.1 (append-nil ran.goes.1) ran.goes.2 in
-    let after = outside left' faults' at.sent at.faults at.refusals at.coming in
-    let read : ReadToEnd before after taken = record {
-      ended = subst (λ l. IfSome l (λ bytes. bytes ≡ [])) (sym came.same_left) came.ended;
-      no_fault = came.same_faults ∙ ran.no_fault;
-      short = short;
-    } in
-    let sent : SentWhole before after went.text = record { whole = went.sent; no_fault = went.same_faults } in
-    record {
-      taken = taken;
-      units = ran.goes.0;
-      tail = ran.goes.1;
-      entries = went.entries;
-      closing = at.state;
-      text = went.text;
-      took = ran.took ∙ ap (first_then taken) (sym came.same_left);
-      spans = went.spans;
-      last = only_of_none ran.goes.0 ran.goes.4;
-      tells = went.tells;
-      legal = went.executed.legal;
-      seconds = went.executed.seconds;
-      own = went.executed.own;
-      ends = ends_at before after taken ran.goes.0 ran.goes.1 went.text read ran.goes.4 (last_rest line_needs ran.goes.0 ran.goes.1 ran.goes.4 (rest ran.goes.1 ran.goes.3)) sent;
-      counts = counts_at before after ran.goes.1 (came.same_faults ∙ ran.no_fault) went.same_faults went.same_refusals;
-    }
+module _ (opening : CacheState) (before : Outside) (state : CacheState) (coming : Option (List ℕ)) (out out' : Outgoing) (waiting : List ℕ) (incoming incoming' : Incoming) (progress : Progress) (taken : List ℕ)
+    (ran : RanSoFar opening before (stand state coming (sent_more out waiting)) incoming progress taken) (short : length taken < 2 ^ 40) (gone : out' ≡ sent_more out waiting)
+    (rest : (bytes : List ℕ) → StandsFor line_needs progress bytes → IsRest line_needs bytes) where
+  went_upto : Went (start_of opening before) (stand state coming (sent_more out waiting)) taken ran.goes.0 ran.goes.1
+  went_upto = went_by (start_of opening before) (stand state coming (sent_more out waiting)) taken ran.goes.0 (ran.goes.1 ++ []) ran.goes.1 (append-nil ran.goes.1) ran.goes.2
 
--- the session is over at 2^40 bytes
-pub over_at_limit : (opening : CacheState) (before : Outside) (at : Stand) (left : Option (List ℕ)) (faults : ℕ) (progress : Progress) (taken : List ℕ) (ran : RanSoFar opening before at left faults progress taken)
-    → length taken ≡ 2 ^ 40 → ((bytes : List ℕ) → StandsFor line_needs progress bytes → IsRest line_needs bytes)
-    → IsSession opening before (outside left faults at.sent at.faults at.refusals at.coming) status.LongInput
-over_at_limit opening before at left faults progress taken ran all rest =
-    let went = went_by (start_of opening before) at taken ran.goes.0 (ran.goes.1 ++ []) ran.goes.1 (append-nil ran.goes.1) ran.goes.2 in
-    record {
-      taken = taken;
-      units = ran.goes.0;
-      tail = ran.goes.1;
-      entries = went.entries;
-      closing = at.state;
-      text = went.text;
-      took = ran.took;
-      spans = went.spans;
-      last = only_of_none ran.goes.0 ran.goes.4;
-      tells = went.tells;
-      legal = went.executed.legal;
-      seconds = went.executed.seconds;
-      own = went.executed.own;
-      ends = record {
-        all_taken = all;
-        none_final = ran.goes.4;
-        no_more = last_rest line_needs ran.goes.0 ran.goes.1 ran.goes.4 (rest ran.goes.1 ran.goes.3);
-        sent = record { whole = went.sent; no_fault = went.same_faults };
-      };
-      counts = (ran.no_fault, went.same_faults, went.same_refusals);
-    }
+  handled_upto : HandledAll ran.goes.0 ran.goes.1
+  handled_upto = record { none_final = ran.goes.4; unfinished = rest ran.goes.1 ran.goes.3 }
+
+  all_sent : out' ≡ sent_more before.out went_upto.text
+  all_sent = gone ∙ went_upto.out
+
+  -- the session is over at a read fault
+  pub over_at_read_fault : FailedToPull incoming incoming' → IsOver opening before (stand state coming out') out' incoming' status.ReadFault
+  over_at_read_fault failed = λ rules. record {
+    taken = taken;
+    units = ran.goes.0;
+    tail = ran.goes.1;
+    entries = went_upto.entries;
+    closing = state;
+    text = went_upto.text;
+    took = ran.took ∙ ap (first_then taken) (sym failed.same_left);
+    spans = went_upto.spans;
+    last = only_of_none ran.goes.0 ran.goes.4;
+    tells = went_upto.tells;
+    legal = went_upto.executed.legal;
+    seconds = went_upto.executed.seconds;
+    own = went_upto.executed.own;
+    rules = rules;
+    ends = record {
+      fault = subst (λ f. Rose f incoming'.faults) ran.no_fault failed.rose;
+      short = short;
+      handled = handled_upto;
+      sent = all_sent;
+    };
+    counts = (ap (λ o. o.faults) all_sent, ap (λ o. o.refusals) all_sent);
+  }
+
+  -- the session is over where the source has ended
+  pub over_at_end : CameToEnd incoming incoming' → IsOver opening before (stand state coming out') out' incoming' (status_at_end ran.goes.1)
+  over_at_end came =
+      went_over opening before state coming incoming' taken (ran.took ∙ ap (first_then taken) (sym came.same_left)) (came.same_faults ∙ ran.no_fault)
+      (status_at_end ran.goes.1) (sent_more out waiting) out' ran.goes.0 ran.goes.1 went_upto (only_of_none ran.goes.0 ran.goes.4)
+      (ends_at before (outside incoming' out' coming) taken ran.goes.0 ran.goes.1 went_upto.text
+      (record { ended = subst (λ l. IfSome l (λ bytes. bytes ≡ [])) (sym came.same_left) came.ended; no_fault = came.same_faults ∙ ran.no_fault; short = short })
+      handled_upto all_sent)
+      (counts_at before (outside incoming' out' coming) ran.goes.1 (came.same_faults ∙ ran.no_fault) (ap (λ o. o.faults) all_sent) (ap (λ o. o.refusals) all_sent))
 
 -- a reader that has no unit ready holds an unfinished one
 pub holds_rest : (progress : Progress) → ready_unit progress ≡ None

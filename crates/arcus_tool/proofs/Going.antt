@@ -1,11 +1,11 @@
 -- A session that goes on by one unit.
-use Rattle.std.proofs.Common.{◌≡◌, ℕ, List, [], ◌∷◌, ◌++◌, take, drop, Option, Some, None, Ok, Err, refl, sym, ap, ◌∙◌, inl, inr, subst, append_assoc}
+use Rattle.std.proofs.Common.{◌≡◌, ◌<◌, ◌≤◌, ℕ, length, arith, List, [], ◌∷◌, ◌++◌, take, drop, Option, Some, None, Ok, Err, refl, sym, ap, ◌∙◌, inl, inr, subst, append_assoc}
 use Rattle.std.proofs.lemmas.List.{take-append-drop}
 use Rattle.std.specs.Prelude.{MatchOption, IfSome}
 use Rattle.arc_core.specs.Framing.{Whole, IsSpan, IsRest}
 use Rattle.arc_core.specs.Grammar.{line_needs}
 use Rattle.arc_core.specs.SessionText.{TellsUnit, IsQuitUnit}
-use Rattle.arc_core.specs.Outside.{then_sent}
+use Rattle.arc_core.specs.Outside.{then_sent, sent_more}
 use Rattle.frame_reader.specs.Progress.{Progress, StandsFor}
 use Rattle.frame_reader.specs.Units.{whole_of}
 use Rattle.frame_reader.specs.declared.units.Unit.{Unit as UnitOfBytes}
@@ -13,7 +13,7 @@ use Rattle.frame_reader.specs.declared.units.Unit.TheVariants as unit_of
 use Rattle.arcus_tool.specs.declared.stops.Stop.{Stop}
 use Rattle.arcus_tool.specs.declared.stops.Stop.TheVariants as stop
 use Rattle.arcus_tool.specs.Handling.{Stand, IsTold, HandlesUnit, IsFinal, IsTooLong, NoneFinal, Went, BrokeOff, GoesOn, StopsAt, Stops}
-use Rattle.arcus_tool.proofs.Sending.{sent_on, cause_since}
+use Rattle.arcus_tool.proofs.Sending.{sent_on, sent_more_on, cause_since}
 use Rattle.arcus_tool.proofs.Histories.{executed_on, spans_on, tells_on, none_on, only_last}
 
 -- the same session by another way to write its tail
@@ -41,9 +41,7 @@ module _ (from middle to : Stand) (taken : List ℕ) (units : List Whole) (unit 
     spans = spans_on line_needs taken units unit span rest went.spans is_span;
     tells = tells_on units unit went.entries told.0 went.text told.1 went.tells told.2;
     executed = executed_on from middle to went.entries told.0 went.executed told.3;
-    sent = told.4.0.whole ∙ ap (λ s. then_sent s told.1) went.sent ∙ sent_on from.sent went.text told.1;
-    same_faults = told.4.1 ∙ went.same_faults;
-    same_refusals = told.4.2 ∙ went.same_refusals;
+    out = told.4 ∙ ap (λ o. sent_more o told.1) went.out ∙ sent_more_on from.out went.text told.1;
   }
 
   -- the next unit was told in part
@@ -63,9 +61,9 @@ module _ (from middle to : Stand) (taken : List ℕ) (units : List Whole) (unit 
           front = went.text ++ part.front;
           back = part.back;
           parts = ap (λ t. went.text ++ t) part.parts ∙ sym (append_assoc went.text part.front part.back);
-          sent_is = part.sent_is ∙ ap (λ s. then_sent s part.front) went.sent ∙ sent_on from.sent went.text part.front;
+          sent_is = part.sent_is ∙ ap (λ o. then_sent o.sent part.front) went.out ∙ sent_on from.out.sent went.text part.front;
         };
-        has_cause = cause_since from.faults middle.faults to.faults from.refusals middle.refusals to.refusals cause went.same_faults went.same_refusals told.4.1;
+        has_cause = cause_since from.out middle.out to.out cause (ap (λ o. o.faults) went.out) (ap (λ o. o.refusals) went.out) told.4.1;
       }
 
 -- neither `quit` nor a line that is too long
@@ -88,24 +86,25 @@ module _ (from middle to : Stand) (taken rest : List ℕ) (progress : Progress) 
   )
 
   -- the unit that is ready was the last one
-  stops_at : (Last : Whole → Type 0) (unit : Whole) → IsSpan line_needs went.1 unit → IsTold (TellsUnit unit) middle to (Ok tt) → Last unit → StopsAt Last from to taken
-  stops_at Last unit span told is_last = (
+  stops_at : (Last : Whole → Type 0) (most : ℕ) (unit : Whole) → length rest < most → IsSpan line_needs went.1 unit → IsTold (TellsUnit unit) middle to (Ok tt) → Last unit → StopsAt Last from to taken most
+  stops_at Last most unit short span told is_last = (
     went.0 ++ unit ∷ [],
     rest,
     went_on from middle to taken went.0 unit went.1 rest went.2 span told,
     record { front = went.0; unit = unit; parts = refl; is_last = is_last },
     only_last went.0 unit went.4,
+    short,
   )
 
   -- behind the unit that is ready the session goes no further
-  pub stops_next : (ready : Option Whole) (cause : Stop) → (ready ≡ None → ⊥)
+  pub stops_next : (most : ℕ) (ready : Option Whole) (cause : Stop) → length rest < most → (ready ≡ None → ⊥)
       → ((bytes : List ℕ) → StandsFor line_needs progress bytes → MatchOption ready (IsRest line_needs bytes) (λ unit. IsSpan line_needs bytes unit))
-      → IfSome ready (λ unit. HandlesUnit unit middle to (Err cause)) → Stops from to taken cause
-  stops_next None cause some spans handled = absurd (some refl)
-  stops_next (Some unit) stop.Failed some spans told = broke_off from middle to taken went.0 unit went.1 rest went.2 (spans went.1 went.3) stop.Failed went.4 told
-  stops_next (Some unit) stop.NoMemory some spans told = broke_off from middle to taken went.0 unit went.1 rest went.2 (spans went.1 went.3) stop.NoMemory went.4 told
-  stops_next (Some unit) stop.LineTooLong some spans handled = stops_at IsTooLong unit (spans went.1 went.3) handled.0 handled.1
-  stops_next (Some unit) stop.Quit some spans handled = stops_at IsQuitUnit unit (spans went.1 went.3) handled.0 handled.1
+      → IfSome ready (λ unit. HandlesUnit unit middle to (Err cause)) → Stops from to taken most cause
+  stops_next most None cause short some spans handled = absurd (some refl)
+  stops_next most (Some unit) stop.Failed short some spans told = broke_off from middle to taken went.0 unit went.1 rest went.2 (spans went.1 went.3) stop.Failed went.4 told
+  stops_next most (Some unit) stop.NoMemory short some spans told = broke_off from middle to taken went.0 unit went.1 rest went.2 (spans went.1 went.3) stop.NoMemory went.4 told
+  stops_next most (Some unit) stop.LineTooLong short some spans handled = stops_at IsTooLong most unit short (spans went.1 went.3) handled.0 handled.1
+  stops_next most (Some unit) stop.Quit short some spans handled = stops_at IsQuitUnit most unit short (spans went.1 went.3) handled.0 handled.1
 
 -- a unit that is not waited for is whole
 pub not_waiting : (unit : UnitOfBytes) → (unit ≡ unit_of.Wait → ⊥) → whole_of unit ≡ None → ⊥
@@ -116,3 +115,10 @@ not_waiting (unit_of.BadChunk line) not e = cc
 not_waiting (unit_of.TooLarge line) not e = cc
 not_waiting (unit_of.BlockNoMemory line) not e = cc
 not_waiting unit_of.LineTooLong not e = cc
+
+-- where the session stops by a part of a piece, it stops by the piece
+pub stops_within : (from to : Stand) (taken : List ℕ) (most most' : ℕ) (cause : Stop) → most ≤ most' → Stops from to taken most cause → Stops from to taken most' cause
+stops_within from to taken most most' stop.Failed le stops = stops
+stops_within from to taken most most' stop.NoMemory le stops = stops
+stops_within from to taken most most' stop.LineTooLong le stops = (stops.0, stops.1, stops.2, stops.3, stops.4, omega (arith, stops.5, le))
+stops_within from to taken most most' stop.Quit le stops = (stops.0, stops.1, stops.2, stops.3, stops.4, omega (arith, stops.5, le))

@@ -7,3 +7,5 @@ pub mod Flushing
 pub mod Ending
 pub mod Beginning
 pub mod Completeness
+pub mod Opening
+pub mod Asking

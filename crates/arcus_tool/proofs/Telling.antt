@@ -1,5 +1,5 @@
 -- What was told of a line, and of a unit.
-use Rattle.std.proofs.Common.{◌≡◌, ℕ, List, [], ◌∷◌, Bool, true, false, Option, Some, None, Result, Ok, Err, refl, sym, ap, ◌∙◌, inl, inr, subst, arith}
+use Rattle.std.proofs.Common.{◌≡◌, ◌<◌, ◌^◌, ℕ, List, [], ◌∷◌, Bool, true, false, Option, Some, None, Result, Ok, Err, refl, sym, ap, ◌∙◌, inl, inr, subst, arith}
 use Rattle.std.specs.Prelude.{if◌then◌else◌}
 use Rattle.std.specs.Option.{option_map}
 use Rattle.std.specs.Result.{result_and}
@@ -11,19 +11,27 @@ use Rattle.arc_core.specs.declared.replies.Word.TheVariants as word
 use Rattle.arc_core.specs.declared.requests.Answer.{Answer}
 use Rattle.arc_core.specs.Outside.{Ticks}
 use Rattle.arc_core.specs.PlainRequest.{PlainRequest}
-use Rattle.arc_core.specs.KeyValueGrammar.{Command, Head, store, get, get_block, count, delete, touch, flush_all, version, quit}
+use Rattle.arc_core.specs.declared.commands.Command.{Command}
+use Rattle.arc_core.specs.declared.commands.Command.TheVariants as command
+use Rattle.arc_core.specs.declared.commands.Head.{Head}
 use Rattle.arc_core.specs.Words.{words, keys_counted}
-use Rattle.arc_core.specs.Grammar.{IsHead, IsBlockFor, Meets, line_needs, line_is_silent, is_silent, need_of, request_of}
+use Rattle.arc_core.specs.Grammar.{IsHead, IsBlockFor, Meets, line_needs, line_is_silent, is_silent, is_quit, need_of, request_of}
 use Rattle.arc_core.specs.History.{Entry, Executes}
 use Rattle.arc_core.specs.ReplyText.{reply_text, word_line}
 use Rattle.arc_core.specs.Framing.{Whole}
 use Rattle.arc_core.specs.Framing as whole
 use Rattle.arc_core.specs.SessionText.{TellsUnit, AnswersItself, IsQuitUnit, sent_for, sent_of}
-use Rattle.line_grammar.specs.PlainHead.{is_quit}
 use Rattle.arcus_tool.specs.declared.stops.Stop.{Stop}
 use Rattle.arcus_tool.specs.declared.stops.Stop.TheVariants as stop
 use Rattle.arcus_tool.specs.Handling.{Stand, IsTold, TellsHead, AnswersLine, QuitsByLine, TellsLine, HasItsBlock, SendsBetween, Executed, Handles, HandlesLine, HandlesUnit, heard}
-use Rattle.arcus_tool.proofs.Sending.{sent_nothing}
+use Rattle.arcus_tool.proofs.Sending.{sent_no_more}
+
+-- two answers that are one
+pub only_ok : {A E : Type 0} (a other : A) → (let x : Result A E = Ok a in x ≡ Ok other) → a ≡ other
+only_ok a other e = cc
+
+pub no_head : {A E : Type 0} (fault : E) (other : A) → (let x : Result A E = Err fault in x ≡ Ok other) → ⊥
+no_head fault other e = cc
 
 -- nothing was executed
 pub nothing_executed : (from to : Stand) → to.state ≡ from.state → to.coming ≡ from.coming → Executed from to []
@@ -34,10 +42,10 @@ module _ (from to : Stand) (head : Head) (block : List ℕ) (silent : Bool) (sam
   sends_heard answer sends = subst (λ s. SendsBetween from to (if s then [] else answer) result) same sends
 
   -- a request was executed at a second of the clock, and its reply was sent
-  pub told_request : (request : PlainRequest) (reply : Reply) (second : ℕ) → Some request ≡ request_of head block
+  pub told_request : (request : PlainRequest) (reply : Reply) (second : ℕ) → second < 2 ^ 32 → Some request ≡ request_of head block
       → Ticks from.coming second to.coming → Executes from.state second request reply to.state → SendsBetween from to (if silent then [] else reply_text reply) result
       → IsTold (TellsHead head block) from to result
-  told_request request reply second is ticks executes sends =
+  told_request request reply second fits is ticks executes sends =
       let entry : Entry = record { seat = 0; session = 0; second = second; request = request; reply = reply } in (
         entry ∷ [],
         heard head (reply_text reply),
@@ -45,7 +53,7 @@ module _ (from to : Stand) (head : Head) (block : List ℕ) (silent : Bool) (sam
         record {
           legal = (to.state, executes, refl);
           seconds = (to.coming, ticks, refl);
-          own = (record { seat = refl; session = refl }, tt);
+          own = (record { seat = refl; session = refl; second = fits }, tt);
         },
         sends_heard (reply_text reply) sends,
       )
@@ -62,37 +70,37 @@ mapped_none f None e = refl
 mapped_none f (Some a) e = cc
 
 -- A command with this block is one whose keys stand in it, and they are not so many.
-pub record AsksForKeys (command : Command) (block : List ℕ) : Type 0 where
+pub record AsksForKeys (asked : Command) (block : List ℕ) : Type 0 where
   pub len : ℕ
   pub number : ℕ
-  pub is : command ≡ get_block len number
+  pub is : asked ≡ command.GetBlock len number
   pub not_so_many : keys_counted number (words block) ≡ None
 
 -- where there is no request, the block of keys is bad
-keys_are_bad : (command : Command) (answer : Answer) (block : List ℕ) → is_quit command ≡ false → request_of (record { command = command; answer = answer }) block ≡ None → AsksForKeys command block
-keys_are_bad (store verb key flags exptime len) answer block goes none = absurd cc
-keys_are_bad (get keys unique) answer block goes none = absurd cc
-keys_are_bad (get_block len number) answer block goes none =
+keys_are_bad : (asked : Command) (answer : Answer) (block : List ℕ) → is_quit asked ≡ false → request_of (record { command = asked; answer = answer }) block ≡ None → AsksForKeys asked block
+keys_are_bad (command.Store verb key flags exptime len) answer block goes none = absurd cc
+keys_are_bad (command.Get keys unique) answer block goes none = absurd cc
+keys_are_bad (command.GetBlock len number) answer block goes none =
     let keys = keys_counted number (words block) in
     record { len = len; number = number; is = refl; not_so_many = mapped_none _ keys (mapped_none _ _ none) }
-keys_are_bad (count up key delta initial) answer block goes none = absurd cc
-keys_are_bad (delete key) answer block goes none = absurd cc
-keys_are_bad (touch key exptime) answer block goes none = absurd cc
-keys_are_bad flush_all answer block goes none = absurd cc
-keys_are_bad version answer block goes none = absurd cc
-keys_are_bad quit answer block goes none = absurd cc
+keys_are_bad (command.Count up key delta initial) answer block goes none = absurd cc
+keys_are_bad (command.Delete key) answer block goes none = absurd cc
+keys_are_bad (command.Touch key exptime) answer block goes none = absurd cc
+keys_are_bad command.FlushAll answer block goes none = absurd cc
+keys_are_bad command.Version answer block goes none = absurd cc
+keys_are_bad command.Quit answer block goes none = absurd cc
 
 -- a command that ends the session
-quit_of : (command : Command) → is_quit command ≡ true → command ≡ quit
-quit_of (store verb key flags exptime len) e = cc
-quit_of (get keys unique) e = cc
-quit_of (get_block len number) e = cc
-quit_of (count up key delta initial) e = cc
-quit_of (delete key) e = cc
-quit_of (touch key exptime) e = cc
-quit_of flush_all e = cc
-quit_of version e = cc
-quit_of quit e = refl
+quit_of : (asked : Command) → is_quit asked ≡ true → asked ≡ command.Quit
+quit_of (command.Store verb key flags exptime len) e = cc
+quit_of (command.Get keys unique) e = cc
+quit_of (command.GetBlock len number) e = cc
+quit_of (command.Count up key delta initial) e = cc
+quit_of (command.Delete key) e = cc
+quit_of (command.Touch key exptime) e = cc
+quit_of command.FlushAll e = cc
+quit_of command.Version e = cc
+quit_of command.Quit e = refl
 
 -- what was sent was sent for no reason to stop but a fault
 module _ {Told : List Entry → List ℕ → Type 0} {Quits Long : Type 0} (from to : Stand) (no_quit : Quits → ⊥) (not_long : Long → ⊥) where
@@ -107,7 +115,7 @@ module _ {Told : List Entry → List ℕ → Type 0} {Quits Long : Type 0} (from
 -- the line is `quit`
 pub quits_by : (line : List ℕ) (head : Head) → IsHead line head → line_needs line ≡ need_of head.command → is_quit head.command ≡ true → QuitsByLine line
 quits_by line head is_head needs quits =
-    let is : head.command ≡ quit = quit_of head.command quits in
+    let is : head.command ≡ command.Quit = quit_of head.command quits in
     record { is_quit = (head, is_head, is); asks_nothing = needs ∙ ap need_of is }
 
 module _ (from to : Stand) (line block : List ℕ) (head : Head) (is_head : IsHead line head) (needs : line_needs line ≡ need_of head.command) where
@@ -146,7 +154,7 @@ module _ (from to : Stand) (line block : List ℕ) (head : Head) (is_head : IsHe
 -- the line is `quit`, and nothing was done
 pub handles_quit : (at : Stand) (line block : List ℕ) → QuitsByLine line → HandlesLine line block at at (Err stop.Quit)
 handles_quit at line block quits =
-    (([], [], inr (inr (quits, refl, refl)), nothing_executed at at refl refl, (record { whole = sym (sent_nothing at.sent) }, refl, refl)), quits)
+    (([], [], inr (inr (quits, refl, refl)), nothing_executed at at refl refl, sym (sent_no_more at.out)), quits)
 
 -- the session answered the line
 pub handles_fault : (from to : Stand) (line block : List ℕ) (answer : Word) (result : Result Unit Stop) → AnswersLine line block answer → line_is_silent line ≡ false

@@ -1,13 +1,13 @@
 -- How the units of a session are handled, one after another. The statement on sessions cites `TicksThrough`, `IsOwn`,
 -- `IsTooLong`, `NoneFinal`, `OnlyLastFinal` and `EndsWith`; all else is for the functions within.
-use Rattle.std.specs.Prelude.{◌≡◌, ◌⊎◌, ℕ, ◌≤◌, if◌then◌else◌, List, [], ◌∷◌, ◌++◌, length, drop, Option, Some, None, Result, Ok, Err, true}
+use Rattle.std.specs.Prelude.{◌≡◌, ◌⊎◌, ℕ, ◌<◌, ◌≤◌, ◌^◌, if◌then◌else◌, List, [], ◌∷◌, ◌++◌, length, drop, Option, Some, None, Result, Ok, Err, true}
 use Rattle.std.specs.List.{AllByRecursion}
 use Rattle.arc_core.specs.declared.outside.Need.TheVariants as need
 use Rattle.arc_core.specs.declared.replies.Word.{Word}
 use Rattle.arc_core.specs.declared.replies.Word.TheVariants as word
-use Rattle.arc_core.specs.Outside.{Ticks, then_sent}
+use Rattle.arc_core.specs.Outside.{Ticks, Outgoing, sent_more}
 use Rattle.arc_core.specs.Framing.{Whole, BeginsWith, line_too_long}
-use Rattle.arc_core.specs.KeyValueGrammar.{Head}
+use Rattle.arc_core.specs.declared.commands.Head.{Head}
 use Rattle.arc_core.specs.Grammar.{SpellsRequest, IsUnknown, IsBadFormat, IsBadBlock, IsQuit, line_needs, is_silent, request_of}
 use Rattle.arc_core.specs.CacheState.{CacheState}
 use Rattle.arc_core.specs.History.{Entry, Replays}
@@ -18,27 +18,25 @@ use Rattle.arcus_tool.specs.Output.{IsSentInPart, HasCause, Sends}
 use Rattle.arcus_tool.specs.declared.stops.Stop.{Stop}
 use Rattle.arcus_tool.specs.declared.stops.Stop.TheVariants as stop
 
--- Where a session stands: the machine's state, the seconds to come, what was sent and the sink's counts.
+-- Where a session stands: the machine's state, the seconds to come, and what has gone out.
 pub record Stand : Type 0 where
   pub state : CacheState
   pub coming : Option (List ℕ)
-  pub sent : Option (List ℕ)
-  pub faults : ℕ
-  pub refusals : ℕ
+  pub out : Outgoing
 
--- where a session stands
-abbrev pub stand : CacheState → Option (List ℕ) → Option (List ℕ) → ℕ → ℕ → Stand
-stand state coming sent faults refusals = record { state = state; coming = coming; sent = sent; faults = faults; refusals = refusals }
+abbrev pub stand : CacheState → Option (List ℕ) → Outgoing → Stand
+stand state coming out = record { state = state; coming = coming; out = out }
 
 -- The entries' seconds are the clock's answers in order, one for each.
 abbrev pub TicksThrough : Option (List ℕ) → List Entry → Option (List ℕ) → Type 0
 TicksThrough coming [] coming' = coming' ≡ coming
 TicksThrough coming (entry ∷ entries) coming' = (middle : Option (List ℕ)) × Ticks coming entry.second middle × TicksThrough middle entries coming'
 
--- The entry is of the only session, which has number 0 and seat 0.
+-- The entry is of the only session, which has number 0 and seat 0, and came at a second of 32 bits.
 pub record IsOwn (entry : Entry) : Type 0 where
   pub seat : entry.seat ≡ 0
   pub session : entry.session ≡ 0
+  pub second : entry.second < 2 ^ 32
 
 -- These requests were executed between the two stands, each at a second of the clock.
 pub record Executed (from to : Stand) (entries : List Entry) : Type 0 where
@@ -48,7 +46,7 @@ pub record Executed (from to : Stand) (entries : List Entry) : Type 0 where
 
 -- The text was sent between the two stands.
 abbrev pub SendsBetween : Stand → Stand → List ℕ → Result Prim.Unit Stop → Type 0
-SendsBetween from to text result = Sends from.sent to.sent from.faults to.faults from.refusals to.refusals text result
+SendsBetween from to text result = Sends from.out to.out text result
 
 -- What was to be told was told: these requests were executed and this text was sent.
 abbrev pub IsTold : (List Entry → List ℕ → Type 0) → Stand → Stand → Result Prim.Unit Stop → Type 0
@@ -136,9 +134,7 @@ pub record Went (from to : Stand) (taken : List ℕ) (units : List Whole) (tail 
   pub spans : BeginsWith line_needs taken units tail
   pub tells : Tells true units entries text
   pub executed : Executed from to entries
-  pub sent : to.sent ≡ then_sent from.sent text
-  pub same_faults : to.faults ≡ from.faults
-  pub same_refusals : to.refusals ≡ from.refusals
+  pub out : to.out ≡ sent_more from.out text
 
 -- The session broke off while the text of the last of these units was sent, for this cause.
 pub record BrokeOff (from to : Stand) (taken : List ℕ) (cause : Stop) : Type 0 where
@@ -150,19 +146,20 @@ pub record BrokeOff (from to : Stand) (taken : List ℕ) (cause : Stop) : Type 0
   pub last : OnlyLastFinal units
   pub tells : Tells true units entries text
   pub executed : Executed from to entries
-  pub sent : IsSentInPart from.sent to.sent text
-  pub has_cause : HasCause from.faults to.faults from.refusals to.refusals cause
+  pub sent : IsSentInPart from.out.sent to.out.sent text
+  pub has_cause : HasCause from.out to.out cause
 
--- The session went up to a unit of this kind, behind which none is handled.
-abbrev pub StopsAt : (Whole → Type 0) → Stand → Stand → List ℕ → Type 0
-StopsAt Last from to taken = (units : List Whole) × (tail : List ℕ) × Went from to taken units tail × EndsWith Last units × OnlyLastFinal units
+-- The session went up to a unit of this kind, behind which none is handled, and fewer than so many bytes were taken behind it.
+abbrev pub StopsAt : (Whole → Type 0) → Stand → Stand → List ℕ → ℕ → Type 0
+StopsAt Last from to taken most =
+    (units : List Whole) × (tail : List ℕ) × Went from to taken units tail × EndsWith Last units × OnlyLastFinal units × (length tail < most)
 
--- Why the session goes no further.
-abbrev pub Stops : Stand → Stand → List ℕ → Stop → Type 0
-Stops from to taken stop.Failed = BrokeOff from to taken stop.Failed
-Stops from to taken stop.NoMemory = BrokeOff from to taken stop.NoMemory
-Stops from to taken stop.LineTooLong = StopsAt IsTooLong from to taken
-Stops from to taken stop.Quit = StopsAt IsQuitUnit from to taken
+-- Why the session goes no further, by the bytes of a piece of this length.
+abbrev pub Stops : Stand → Stand → List ℕ → ℕ → Stop → Type 0
+Stops from to taken most stop.Failed = BrokeOff from to taken stop.Failed
+Stops from to taken most stop.NoMemory = BrokeOff from to taken stop.NoMemory
+Stops from to taken most stop.LineTooLong = StopsAt IsTooLong from to taken most
+Stops from to taken most stop.Quit = StopsAt IsQuitUnit from to taken most
 
 -- The session went on so far that the reader has taken all of the tail but these bytes.
 abbrev pub GoesOn : Stand → Stand → List ℕ → Progress → List ℕ → Type 0
@@ -175,12 +172,12 @@ pub record IsBetweenUnits (progress : Progress) : Type 0 where
   pub tail : List ℕ
   pub stands : StandsFor line_needs progress tail
 
--- All bytes of a piece were taken and the session goes on, or it stops.
-abbrev pub TakesAll : Stand → Stand → List ℕ → Progress → Result Prim.Unit Stop → Type 0
-TakesAll from to taken progress (Ok _) = GoesOn from to taken progress []
-TakesAll from to taken progress (Err cause) = Stops from to taken cause
+-- All bytes of a piece of this length were taken and the session goes on, or it stops.
+abbrev pub TakesAll : Stand → Stand → List ℕ → ℕ → Progress → Result Prim.Unit Stop → Type 0
+TakesAll from to taken most progress (Ok _) = GoesOn from to taken progress []
+TakesAll from to taken most progress (Err cause) = Stops from to taken most cause
 
 -- So many bytes of the piece were taken and the session goes on with the others, or it stops.
 abbrev pub Takes : Stand → Stand → List ℕ → Progress → List ℕ → Result ℕ Stop → Type 0
 Takes from to taken progress piece (Ok count) = GoesOn from to taken progress (drop count piece)
-Takes from to taken progress piece (Err cause) = Stops from to taken cause
+Takes from to taken progress piece (Err cause) = Stops from to taken (length piece) cause

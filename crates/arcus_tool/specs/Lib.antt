@@ -4,3 +4,4 @@ pub mod Handling
 pub mod Session
 pub mod Reading
 pub mod Words
+pub mod Asking

@@ -1,12 +1,8 @@
--- How texts reach a link: sent in order, and cut off by a fault alone.
+-- How texts reach a link or a sink: sent in order, and cut off by a fault alone.
 use Rattle.std.specs.Prelude.{◌≡◌, ℕ, List, ◌++◌, Option, Result, Ok, Err}
-use Rattle.arc_core.specs.Outside.{Rose, then_sent}
+use Rattle.arc_core.specs.Outside.{Rose, Outgoing, then_sent, sent_more}
 use Rattle.arcus_tool.specs.declared.stops.Stop.{Stop}
 use Rattle.arcus_tool.specs.declared.stops.Stop.TheVariants as stop
-
--- The whole text was sent.
-pub record IsSent (sent sent' : Option (List ℕ)) (text : List ℕ) : Type 0 where
-  pub whole : sent' ≡ then_sent sent text
 
 -- A front of the text was sent.
 pub record IsSentInPart (sent sent' : Option (List ℕ)) (text : List ℕ) : Type 0 where
@@ -16,18 +12,13 @@ pub record IsSentInPart (sent sent' : Option (List ℕ)) (text : List ℕ) : Typ
   pub sent_is : sent' ≡ then_sent sent front
 
 -- Which count rose, where a text was not sent whole.
-abbrev pub HasCause : (faults faults' refusals refusals' : ℕ) → Stop → Type 0
-HasCause faults faults' refusals refusals' stop.Failed = Rose faults faults' × (refusals' ≡ refusals)
-HasCause faults faults' refusals refusals' stop.NoMemory = (faults' ≡ faults) × Rose refusals refusals'
-HasCause faults faults' refusals refusals' stop.LineTooLong = ⊥
-HasCause faults faults' refusals refusals' stop.Quit = ⊥
+abbrev pub HasCause : (before after : Outgoing) → Stop → Type 0
+HasCause before after stop.Failed = Rose before.faults after.faults × (after.refusals ≡ before.refusals)
+HasCause before after stop.NoMemory = (after.faults ≡ before.faults) × Rose before.refusals after.refusals
+HasCause before after stop.LineTooLong = ⊥
+HasCause before after stop.Quit = ⊥
 
--- The text was sent whole and no count rose, or a front of it was sent and the cause is counted.
-abbrev pub Sends : (sent sent' : Option (List ℕ)) (faults faults' refusals refusals' : ℕ) (text : List ℕ) → Result Prim.Unit Stop → Type 0
-Sends sent sent' faults faults' refusals refusals' text (Ok _) = IsSent sent sent' text × (faults' ≡ faults) × (refusals' ≡ refusals)
-Sends sent sent' faults faults' refusals refusals' text (Err cause) = IsSentInPart sent sent' text × HasCause faults faults' refusals refusals' cause
-
--- Nothing was taken from the source, and no pull failed.
-pub record TookNothing (left left' : Option (List ℕ)) (faults faults' : ℕ) : Type 0 where
-  pub same_left : left' ≡ left
-  pub same_faults : faults' ≡ faults
+-- The text was sent whole and nothing else has changed, or a front of it was sent and the cause is counted.
+abbrev pub Sends : (before after : Outgoing) (text : List ℕ) → Result Prim.Unit Stop → Type 0
+Sends before after text (Ok _) = after ≡ sent_more before text
+Sends before after text (Err cause) = IsSentInPart before.sent after.sent text × HasCause before after cause

@@ -48,14 +48,20 @@ impl<R: Read> Source for StdSource<R> {
 pub struct StdSink<W> {
     writer: W,
     faults: u64,
+    refusals: u64,
 }
 
 impl<W: Write> StdSink<W> {
     /// A sink that has not failed yet. It tells nothing of the writer.
     pub fn new(writer: W) -> StdSink<W>
-        ensures { result.faults ≡ 0 }
+        ensures no_fault { result.faults ≡ 0 }
+        ensures no_refusal { result.refusals ≡ 0 }
     {
-        StdSink { writer, faults: 0 }
+        StdSink {
+            writer,
+            faults: 0,
+            refusals: 0,
+        }
     }
 }
 
@@ -64,7 +70,7 @@ impl<W: Write> Sink for StdSink<W> {
 
     ghost write_faults = { λ sink. sink.faults };
 
-    ghost refusals = { λ _. 0 };
+    ghost refusals = { λ sink. sink.refusals };
 
     fn push(&mut self, piece: &[u8]) -> Push {
         for _ in 0..u64::MAX {
@@ -74,6 +80,10 @@ impl<W: Write> Sink for StdSink<W> {
                 Ok(count) => return Push::Took(count),
                 // A signal came: the call is made again.
                 Err(error) if error.kind() == ErrorKind::Interrupted => {}
+                Err(error) if error.kind() == ErrorKind::OutOfMemory => {
+                    self.refusals = self.refusals.saturating_add(1);
+                    return Push::NoMemory;
+                }
                 Err(_) => break,
             }
         }

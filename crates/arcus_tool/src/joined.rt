@@ -4,12 +4,14 @@
 //! calls: they say what the link tells, and not that it still borrows the same source and the same sink. So a joined
 //! link has a parameter that fixes which two these are, and what the sink had been sent before.
 ghost use Rattle.std.specs.Prelude.{◌≡◌, ◌<◌, ℕ, List, Option, None, length};
-ghost use Rattle.arc_core.specs.Outside.{Pulled, then_sent};
-ghost use Rattle.arcus_tool.specs.Waiting.{Grew, Flushes};
+ghost use Rattle.arc_core.specs.Outside.{incoming, outgoing, then_sent};
+ghost use Rattle.arc_core.specs.ReplyText.{reply_text};
+ghost use Rattle.arcus_tool.specs.Waiting.{Grew, Flushes, Exchanges, PutsWhole};
 
-use crate::outbox::{self, Outbox};
+use crate::outbox;
 use crate::stops::Stop;
-use arc_core::{Link, Pull, Push, Sink, Source};
+use arc_core::{Link, Pull, Push, Reply, Sink, Source};
+use reply_print::Outbox;
 use std::marker::{Brand, PhantomData};
 
 /// Which borrows a link joins, by the names that proofs have of them, and what the sink had been sent then. No value at
@@ -32,6 +34,20 @@ impl Joins for Brand {
     ghost sink = { 0 };
 
     ghost sent = { None };
+}
+
+/// A link that lets texts wait where a push would have to, so that those of many units go out together.
+pub trait Gathers: Link {
+    /// Takes the whole text of a reply to be sent behind all that waits, where it has room, and tells whether it has. Else
+    /// nothing has changed.
+    fn put(&mut self, reply: &Reply) -> bool
+        ensures put { PutsWhole (outgoing (Self.sent self.old) (Self.write_faults self.old) (Self.refusals self.old))
+            (outgoing (Self.sent self.new) (Self.write_faults self.new) (Self.refusals self.new)) (reply_text reply.now) result }
+        ensures incoming { incoming (Self.left self.new) (Self.read_faults self.new) ≡ incoming (Self.left self.old) (Self.read_faults self.old) };
+
+    /// Does nothing, and tells contracts that the link never had to be asked again.
+    fn never_asks_again(&self)
+        ensures { Self.agains self.now ≡ 0 };
 }
 
 /// A source and a sink, borrowed.
@@ -93,8 +109,8 @@ impl<'a, 'b, S, K: Sink, J: Joins> JoinedLink<'a, 'b, S, K, J> {
 
     /// Sends all that waits.
     pub fn flush(&mut self) -> Result<(), Stop>
-        ensures flushes { Flushes (K.sent self.old.sink.now) (K.sent self.new.sink.now) (K.write_faults self.old.sink.now)
-            (K.write_faults self.new.sink.now) (K.refusals self.old.sink.now) (K.refusals self.new.sink.now)
+        ensures flushes { Flushes (outgoing (K.sent self.old.sink.now) (K.write_faults self.old.sink.now) (K.refusals self.old.sink.now))
+            (outgoing (K.sent self.new.sink.now) (K.write_faults self.new.sink.now) (K.refusals self.new.sink.now))
             self.old.outbox self.new.outbox result }
         ensures source { self.new.source.now ≡ self.old.source.now }
     {
@@ -103,15 +119,20 @@ impl<'a, 'b, S, K: Sink, J: Joins> JoinedLink<'a, 'b, S, K, J> {
 }
 
 impl<'a, 'b, S: Source, K: Sink, J: Joins> JoinedLink<'a, 'b, S, K, J> {
-    /// Pulls from the source. What waits goes on to wait.
-    pub fn receive(&mut self, buf: &mut [u8]) -> Pull
+    /// Sends all that waits, and then pulls from the source: nothing waits while the source is waited for. Where not all
+    /// could be sent, nothing is pulled.
+    pub fn exchange(&mut self, buf: &mut [u8]) -> Result<Pull, Stop>
         requires { 0 < length buf.old }
-        ensures pulled { Pulled (S.left self.old.source.now) (S.left self.new.source.now)
-            (S.read_faults self.old.source.now) (S.read_faults self.new.source.now) buf.new result }
-        ensures sink { self.new.sink.now ≡ self.old.sink.now }
-        ensures outbox { self.new.outbox ≡ self.old.outbox }
+        ensures { Exchanges (outgoing (K.sent self.old.sink.now) (K.write_faults self.old.sink.now) (K.refusals self.old.sink.now))
+            (outgoing (K.sent self.new.sink.now) (K.write_faults self.new.sink.now) (K.refusals self.new.sink.now))
+            self.old.outbox self.new.outbox
+            (incoming (S.left self.old.source.now) (S.read_faults self.old.source.now))
+            (incoming (S.left self.new.source.now) (S.read_faults self.new.source.now)) buf.new result }
     {
-        self.source.pull(buf)
+        match self.flush() {
+            Ok(()) => Ok(self.source.pull(buf)),
+            Err(stop) => Err(stop),
+        }
     }
 }
 
@@ -126,11 +147,21 @@ impl<'a, 'b, S: Source, K: Sink, J: Joins> Link for JoinedLink<'a, 'b, S, K, J> 
 
     ghost refusals = { λ link. K.refusals link.sink.now };
 
+    ghost agains = { λ _. 0 };
+
     fn pull(&mut self, buf: &mut [u8]) -> Pull {
-        self.receive(buf)
+        self.source.pull(buf)
     }
 
     fn push(&mut self, piece: &[u8]) -> Push {
         outbox::post(&mut self.outbox, self.sink, piece)
     }
+}
+
+impl<'a, 'b, S: Source, K: Sink, J: Joins> Gathers for JoinedLink<'a, 'b, S, K, J> {
+    fn put(&mut self, reply: &Reply) -> bool {
+        self.outbox.put(reply)
+    }
+
+    fn never_asks_again(&self) {}
 }

@@ -17,4 +17,4 @@ pub use edge::{StdSink, StdSource, WallClock};
 pub use sessions::session;
 pub use status::Status;
 pub use top::{World, run};
-pub use words::{BadWords, Job, read_words};
+pub use words::{BadWords, Job, read_words, words_ask_for_a_session};

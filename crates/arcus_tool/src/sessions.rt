@@ -1,14 +1,14 @@
 //! One session, from a source to a sink.
-ghost use Rattle.std.specs.Prelude.{◌≡◌, ◌+◌, ◌*◌, ◌^◌, ◌<◌, ◌≤◌, ℕ, List, [], length, None, IfOk, OnOk, vec_len};
-ghost use Rattle.arc_core.specs.CacheState.{CacheState, opening_state};
+ghost use Rattle.std.specs.Prelude.{◌≡◌, ◌+◌, ◌^◌, ◌<◌, ◌≤◌, ℕ, List, [], length, None, IfOk, OnOk, vec_len};
+ghost use Rattle.arc_core.specs.Outside.{incoming, outgoing, then_sent};
+ghost use Rattle.arc_core.specs.CacheState.{CacheState};
 ghost use Rattle.arc_core.specs.Grammar.{line_needs};
 ghost use Rattle.frame_reader.specs.Progress.{StandsFor, ready_unit};
-ghost use Rattle.arcus_tool.specs.Output.{TookNothing};
-ghost use Rattle.arcus_tool.specs.Handling.{Stand, stand, IsBetweenUnits, GoesOn, TakesAll};
-ghost use Rattle.arcus_tool.specs.Session.{Outside, outside, IsSession, IsComplete, RanSoFar, TurnLeaves, TurnKeeps, IfMore, status_at_end, IsFresh};
+ghost use Rattle.arcus_tool.specs.Handling.{stand, IsBetweenUnits};
+ghost use Rattle.arcus_tool.specs.Session.{Outside, outside, IsSession, IsComplete, RanSoFar, CameTo, TurnLeaves, TurnKeeps, Finishes, status_at_end, IsFresh};
+ghost use Rattle.arcus_tool.specs.Words.{opening_of};
 
 use crate::joined::{JoinedLink, Joins, Pair};
-use crate::outbox::Outbox;
 use crate::status::Status;
 use crate::stops::{Stop, Turn};
 use crate::units::take_piece;
@@ -18,6 +18,7 @@ use frame_reader::{
     Frames, beginnings_agree, reader_stands_for_a_unit, rest_begins_with_no_unit, units_stay,
 };
 use line_grammar::KvHeads;
+use reply_print::Outbox;
 use std::alloc::Global;
 use std::marker::Brand;
 
@@ -27,36 +28,53 @@ const PIECE_BYTES: usize = 16_384;
 /// The most bytes that a session takes.
 const MAX_INPUT: u64 = 1 << 40;
 
-// Handles the units that get whole by a piece, and sends their texts. Nothing waits before, and nothing behind.
+// Sends all that waits where the session is over, and tells with which status.
+fn finish<'a, 'b, S: Source, K: Sink, J: Joins>(
+    link: &mut JoinedLink<'a, 'b, S, K, J>,
+    status: Status,
+) -> Status
+    ensures finishes { Finishes (outgoing (K.sent link.old.sink.now) (K.write_faults link.old.sink.now) (K.refusals link.old.sink.now))
+        (outgoing (K.sent link.new.sink.now) (K.write_faults link.new.sink.now) (K.refusals link.new.sink.now)) link.old.outbox link.new.outbox status result }
+    ensures source { link.new.source.now ≡ link.old.source.now }
+{
+    match link.flush() {
+        Ok(()) => status,
+        Err(stop) => stop.status(),
+    }
+}
+
+// Handles the units that get whole by a piece. Their texts wait, or were sent where the session is over.
 fn handle_piece<'a, 'b, S: Source, K: Sink, E: Executor, C: Clock, J: Joins>(
     frames: &mut Frames<KvHeads>,
     exec: &mut E,
     clock: &mut C,
     link: &mut JoinedLink<'a, 'b, S, K, J>,
     piece: &[u8],
-) -> Result<(), Stop>
+) -> Turn
+    requires some { 0 < length piece.now }
+    requires few { length piece.now ≤ 16384 }
     requires at_start { IsBetweenUnits frames.old }
-    requires nothing_waits { link.old.outbox ≡ [] }
-    ensures at_end { OnOk result (IsBetweenUnits frames.new) }
-    ensures nothing_waits { OnOk result (link.new.outbox ≡ []) }
-    ensures goes { (from : Stand) (taken : List ℕ) → from.sent ≡ J.sent → GoesOn from
-        (stand (E.state exec.old) (C.coming clock.old) (K.sent link.old.sink.now) (K.write_faults link.old.sink.now) (K.refusals link.old.sink.now))
-        taken frames.old piece.now
-        → TakesAll from
-        (stand (E.state exec.new) (C.coming clock.new) (K.sent link.new.sink.now) (K.write_faults link.new.sink.now) (K.refusals link.new.sink.now))
-        taken frames.new result }
-    ensures source { TookNothing (S.left link.old.source.now) (S.left link.new.source.now) (S.read_faults link.old.source.now) (S.read_faults link.new.source.now) }
+    ensures keeps { TurnKeeps (length piece.now) frames.new result }
+    ensures leaves { (opening : CacheState) (before : Outside) (taken : List ℕ) → length taken + length piece.now ≤ 2 ^ 40
+        → before.out.sent ≡ J.sent
+        → CameTo opening before (stand (E.state exec.old) (C.coming clock.old)
+        (outgoing (then_sent (K.sent link.old.sink.now) link.old.outbox) (K.write_faults link.old.sink.now) (K.refusals link.old.sink.now)))
+        (incoming (S.left link.old.source.now) (S.read_faults link.old.source.now)) frames.old taken piece.now
+        → TurnLeaves opening before (stand (E.state exec.new) (C.coming clock.new)
+        (outgoing (then_sent (K.sent link.new.sink.now) link.new.outbox) (K.write_faults link.new.sink.now) (K.refusals link.new.sink.now)))
+        (outgoing (K.sent link.new.sink.now) (K.write_faults link.new.sink.now) (K.refusals link.new.sink.now))
+        (incoming (S.left link.new.source.now) (S.read_faults link.new.source.now)) frames.new taken result }
 {
     match take_piece(frames, exec, clock, link, piece) {
-        Ok(()) => link.flush(),
-        Err(Stop::Quit) => link.flush().and(Err(Stop::Quit)),
-        Err(Stop::LineTooLong) => link.flush().and(Err(Stop::LineTooLong)),
-        Err(Stop::Failed) => Err(Stop::Failed),
-        Err(Stop::NoMemory) => Err(Stop::NoMemory),
+        Ok(()) => Turn::More(piece.len()),
+        Err(Stop::Quit) => Turn::Over(finish(link, Status::Done)),
+        Err(Stop::LineTooLong) => Turn::Over(finish(link, Status::LineTooLong)),
+        Err(Stop::Failed) => Turn::Over(Status::WriteFault),
+        Err(Stop::NoMemory) => Turn::Over(Status::NoMemory),
     }
 }
 
-// Pulls once, handles the units that get whole by the bytes that come, and sends their texts.
+// Sends what waits, pulls once, and handles the units that get whole by the bytes that come.
 fn pull_once<'a, 'b, S: Source, K: Sink, E: Executor, C: Clock, J: Joins>(
     frames: &mut Frames<KvHeads>,
     exec: &mut E,
@@ -65,30 +83,27 @@ fn pull_once<'a, 'b, S: Source, K: Sink, E: Executor, C: Clock, J: Joins>(
     buffer: &mut [u8],
 ) -> Turn
     requires some { 0 < length buffer.old }
+    requires few { length buffer.old ≤ 16384 }
     requires at_start { IsBetweenUnits frames.old }
-    requires nothing_waits { link.old.outbox ≡ [] }
     ensures keeps { TurnKeeps (length buffer.old) frames.new result }
-    ensures nothing_waits { IfMore result (link.new.outbox ≡ []) }
     ensures leaves { (opening : CacheState) (before : Outside) (taken : List ℕ) → length taken + length buffer.old ≤ 2 ^ 40
-        → before.sent ≡ J.sent
-        → RanSoFar opening before
-        (stand (E.state exec.old) (C.coming clock.old) (K.sent link.old.sink.now) (K.write_faults link.old.sink.now) (K.refusals link.old.sink.now))
-        (S.left link.old.source.now) (S.read_faults link.old.source.now) frames.old taken
-        → TurnLeaves opening before
-        (stand (E.state exec.new) (C.coming clock.new) (K.sent link.new.sink.now) (K.write_faults link.new.sink.now) (K.refusals link.new.sink.now))
-        (S.left link.new.source.now) (S.read_faults link.new.source.now) frames.new taken result }
+        → before.out.sent ≡ J.sent
+        → RanSoFar opening before (stand (E.state exec.old) (C.coming clock.old)
+        (outgoing (then_sent (K.sent link.old.sink.now) link.old.outbox) (K.write_faults link.old.sink.now) (K.refusals link.old.sink.now)))
+        (incoming (S.left link.old.source.now) (S.read_faults link.old.source.now)) frames.old taken
+        → TurnLeaves opening before (stand (E.state exec.new) (C.coming clock.new)
+        (outgoing (then_sent (K.sent link.new.sink.now) link.new.outbox) (K.write_faults link.new.sink.now) (K.refusals link.new.sink.now)))
+        (outgoing (K.sent link.new.sink.now) (K.write_faults link.new.sink.now) (K.refusals link.new.sink.now))
+        (incoming (S.left link.new.source.now) (S.read_faults link.new.source.now)) frames.new taken result }
 {
     reader_stands_for_a_unit();
-    match link.receive(buffer) {
-        Pull::Got(count) => match handle_piece(frames, exec, clock, link, &buffer[..count]) {
-            Ok(()) => Turn::More(count),
-            Err(Stop::Quit) => Turn::Over(Status::Done),
-            Err(Stop::LineTooLong) => Turn::Over(Status::LineTooLong),
-            Err(Stop::Failed) => Turn::Over(Status::WriteFault),
-            Err(Stop::NoMemory) => Turn::Over(Status::NoMemory),
-        },
-        Pull::End => Turn::Over(at_end(frames)),
-        Pull::Failed => Turn::Over(Status::ReadFault),
+    match link.exchange(buffer) {
+        Ok(Pull::Got(count)) => handle_piece(frames, exec, clock, link, &buffer[..count]),
+        Ok(Pull::End) => Turn::Over(at_end(frames)),
+        Ok(Pull::Failed) => Turn::Over(Status::ReadFault),
+        // A source never has to be asked again.
+        Ok(Pull::Again) => unreachable!(),
+        Err(stop) => Turn::Over(stop.status()),
     }
 }
 
@@ -111,13 +126,16 @@ fn serve<'a, 'b, S: Source, K: Sink, E: Executor, C: Clock, J: Joins>(
     link: &mut JoinedLink<'a, 'b, S, K, J>,
     buffer: &mut [u8],
 ) -> Status
-    requires buffer { 0 < length buffer.old }
+    requires some { 0 < length buffer.old }
+    requires few { length buffer.old ≤ 16384 }
     requires fresh { IsFresh frames.old }
     requires nothing_waits { link.old.outbox ≡ [] }
     requires sent { K.sent link.old.sink.now ≡ J.sent }
     ensures { IsSession (E.state exec.old)
-        (outside (S.left link.old.source.now) (S.read_faults link.old.source.now) (K.sent link.old.sink.now) (K.write_faults link.old.sink.now) (K.refusals link.old.sink.now) (C.coming clock.old))
-        (outside (S.left link.new.source.now) (S.read_faults link.new.source.now) (K.sent link.new.sink.now) (K.write_faults link.new.sink.now) (K.refusals link.new.sink.now) (C.coming clock.new))
+        (outside (incoming (S.left link.old.source.now) (S.read_faults link.old.source.now))
+        (outgoing (K.sent link.old.sink.now) (K.write_faults link.old.sink.now) (K.refusals link.old.sink.now)) (C.coming clock.old))
+        (outside (incoming (S.left link.new.source.now) (S.read_faults link.new.source.now))
+        (outgoing (K.sent link.new.sink.now) (K.write_faults link.new.sink.now) (K.refusals link.new.sink.now)) (C.coming clock.new))
         result }
 {
     reader_stands_for_a_unit();
@@ -126,10 +144,14 @@ fn serve<'a, 'b, S: Source, K: Sink, E: Executor, C: Clock, J: Joins>(
         let most = (MAX_INPUT - taken).min(buffer.len() as u64) as usize;
         match pull_once(frames, exec, clock, link, &mut buffer[..most]) {
             Turn::More(count) => taken += count as u64,
-            Turn::Over(status) => return status,
+            Turn::Over(status) => {
+                exec.keeps_the_rules();
+                return status;
+            }
         }
     }
-    Status::LongInput
+    exec.keeps_the_rules();
+    finish(link, Status::LongInput)
 }
 
 // Runs a session on a source and a sink, which are given back, to its end. The frames are fresh, and the outbox is empty.
@@ -141,15 +163,18 @@ fn serve_pair<'a, 'b, S: Source, K: Sink, C: Clock, E: Executor, J: Joins>(
     frames: &mut Frames<KvHeads>,
     buffer: &mut [u8],
 ) -> (Pair<'a, 'b, S, K>, Status)
-    requires buffer { 0 < length buffer.old }
+    requires some { 0 < length buffer.old }
+    requires few { length buffer.old ≤ 16384 }
     requires fresh { IsFresh frames.old }
     requires nothing_waits { outbox ≡ [] }
     requires same_source { pair.source.ghost_name ≡ J.source }
     requires same_sink { pair.sink.ghost_name ≡ J.sink }
     requires sent { K.sent pair.sink.now ≡ J.sent }
     ensures session { IsSession (E.state exec.old)
-        (outside (S.left pair.entry.source.now) (S.read_faults pair.entry.source.now) (K.sent pair.entry.sink.now) (K.write_faults pair.entry.sink.now) (K.refusals pair.entry.sink.now) (C.coming clock.old))
-        (outside (S.left result.0.source.now) (S.read_faults result.0.source.now) (K.sent result.0.sink.now) (K.write_faults result.0.sink.now) (K.refusals result.0.sink.now) (C.coming clock.new))
+        (outside (incoming (S.left pair.entry.source.now) (S.read_faults pair.entry.source.now))
+        (outgoing (K.sent pair.entry.sink.now) (K.write_faults pair.entry.sink.now) (K.refusals pair.entry.sink.now)) (C.coming clock.old))
+        (outside (incoming (S.left result.0.source.now) (S.read_faults result.0.source.now))
+        (outgoing (K.sent result.0.sink.now) (K.write_faults result.0.sink.now) (K.refusals result.0.sink.now)) (C.coming clock.new))
         result.1 }
     ensures same_source { result.0.source.ghost_name ≡ J.source }
     ensures same_sink { result.0.sink.ghost_name ≡ J.sink }
@@ -159,7 +184,8 @@ fn serve_pair<'a, 'b, S: Source, K: Sink, C: Clock, E: Executor, J: Joins>(
     (link.parts(), status)
 }
 
-/// Runs one session from the source to the sink, on a cache of so many mebibytes, 1 to 4,096.
+/// Runs one session from the source to the sink, on a cache of `limit` mebibytes, 1 to 4,096, of which the sticky items may
+/// take `share` percent, 0 to 100.
 ///
 /// It always returns. `Done` comes where the source has ended behind a unit, or behind a line that is `quit`, and all
 /// text was sent; `CutInput` where the source has ended within a unit; `LineTooLong`, `LongInput`, `ReadFault` and
@@ -171,43 +197,53 @@ fn serve_pair<'a, 'b, S: Source, K: Sink, C: Clock, E: Executor, J: Joins>(
 pub fn session<S: Source, K: Sink, C: Clock>(
     alloc: Global,
     limit: u32,
+    share: u32,
     source: &mut S,
     sink: &mut K,
     clock: &mut C,
 ) -> Status
     requires at_least { 1 ≤ limit }
     requires at_most { limit ≤ 4096 }
-    ensures session { IsSession (opening_state (1048576 * limit))
-        (outside (S.left source.old) (S.read_faults source.old) (K.sent sink.old) (K.write_faults sink.old) (K.refusals sink.old) (C.coming clock.old))
-        (outside (S.left source.new) (S.read_faults source.new) (K.sent sink.new) (K.write_faults sink.new) (K.refusals sink.new) (C.coming clock.new))
+    requires percent { share ≤ 100 }
+    ensures session { IsSession (opening_of limit share)
+        (outside (incoming (S.left source.old) (S.read_faults source.old))
+        (outgoing (K.sent sink.old) (K.write_faults sink.old) (K.refusals sink.old)) (C.coming clock.old))
+        (outside (incoming (S.left source.new) (S.read_faults source.new))
+        (outgoing (K.sent sink.new) (K.write_faults sink.new) (K.refusals sink.new)) (C.coming clock.new))
         result }
     ensures complete { IsComplete
-        (outside (S.left source.old) (S.read_faults source.old) (K.sent sink.old) (K.write_faults sink.old) (K.refusals sink.old) (C.coming clock.old))
-        (outside (S.left source.new) (S.read_faults source.new) (K.sent sink.new) (K.write_faults sink.new) (K.refusals sink.new) (C.coming clock.new))
+        (outside (incoming (S.left source.old) (S.read_faults source.old))
+        (outgoing (K.sent sink.old) (K.write_faults sink.old) (K.refusals sink.old)) (C.coming clock.old))
+        (outside (incoming (S.left source.new) (S.read_faults source.new))
+        (outgoing (K.sent sink.new) (K.write_faults sink.new) (K.refusals sink.new)) (C.coming clock.new))
         result }
 {
     beginnings_agree();
     rest_begins_with_no_unit();
     units_stay();
-    run_session(alloc, limit, source, sink, clock)
+    run_session(alloc, limit, share, source, sink, clock)
 }
 
 // Takes the memory of a session, and runs it.
 fn run_session<S: Source, K: Sink, C: Clock>(
     alloc: Global,
     limit: u32,
+    share: u32,
     source: &mut S,
     sink: &mut K,
     clock: &mut C,
 ) -> Status
     requires at_least { 1 ≤ limit }
     requires at_most { limit ≤ 4096 }
-    ensures { IsSession (opening_state (1048576 * limit))
-        (outside (S.left source.old) (S.read_faults source.old) (K.sent sink.old) (K.write_faults sink.old) (K.refusals sink.old) (C.coming clock.old))
-        (outside (S.left source.new) (S.read_faults source.new) (K.sent sink.new) (K.write_faults sink.new) (K.refusals sink.new) (C.coming clock.new))
+    requires percent { share ≤ 100 }
+    ensures { IsSession (opening_of limit share)
+        (outside (incoming (S.left source.old) (S.read_faults source.old))
+        (outgoing (K.sent sink.old) (K.write_faults sink.old) (K.refusals sink.old)) (C.coming clock.old))
+        (outside (incoming (S.left source.new) (S.read_faults source.new))
+        (outgoing (K.sent sink.new) (K.write_faults sink.new) (K.refusals sink.new)) (C.coming clock.new))
         result }
 {
-    let Some(settings) = Settings::of_mib(limit) else {
+    let Some(settings) = Settings::of_shares(limit, share) else {
         unreachable!();
     };
     let Ok(mut cache) = Cache::new(alloc, settings) else {

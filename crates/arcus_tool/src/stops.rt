@@ -1,4 +1,6 @@
 //! Why a session goes no further.
+ghost use Rattle.std.specs.Prelude.{◌≡◌};
+ghost use Rattle.arcus_tool.specs.Session.{status_of};
 
 use crate::status::Status;
 
@@ -13,6 +15,20 @@ pub enum Stop {
     LineTooLong,
     /// A line is `quit`.
     Quit,
+}
+
+impl Stop {
+    /// The status of a session that stops so, where all that waits can be sent.
+    pub fn status(self) -> Status
+        ensures { result ≡ status_of self }
+    {
+        match self {
+            Stop::Failed => Status::WriteFault,
+            Stop::NoMemory => Status::NoMemory,
+            Stop::LineTooLong => Status::LineTooLong,
+            Stop::Quit => Status::Done,
+        }
+    }
 }
 
 /// What one pull leaves.

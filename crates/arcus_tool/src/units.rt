@@ -1,42 +1,61 @@
 //! Handles the units of a session.
 ghost use Rattle.std.specs.Prelude.{◌≡◌, ◌<◌, ◌≤◌, ◌^◌, ℕ, List, [], length, if◌then◌else◌, false, IfOk, IfSome, OnOk};
+ghost use Rattle.arc_core.specs.Outside.{incoming, outgoing};
 ghost use Rattle.arc_core.specs.Framing.{IsSpan};
-ghost use Rattle.arc_core.specs.Grammar.{IsHead, IsBlockFor, line_needs, line_is_silent};
+ghost use Rattle.arc_core.specs.Grammar.{IsHead, IsBlockFor, is_quit, line_needs, line_is_silent};
 ghost use Rattle.arc_core.specs.ReplyText.{reply_text, word_line};
 ghost use Rattle.arc_core.specs.SessionText.{sent_for};
 ghost use Rattle.frame_reader.specs.Units.{whole_of};
-ghost use Rattle.line_grammar.specs.PlainHead.{plain_head, is_quit};
-ghost use Rattle.arcus_tool.specs.Output.{Sends, TookNothing};
+ghost use Rattle.arcus_tool.specs.Output.{Sends};
 ghost use Rattle.arcus_tool.specs.Handling.{Stand, stand, IsTold, TellsHead, HasItsBlock, HandlesLine, HandlesUnit, IsBetweenUnits, GoesOn, Takes, TakesAll};
 
+use crate::joined::Gathers;
 use crate::stops::Stop;
-use arc_core::{Clock, Executor, Link, Reply, Word};
+use arc_core::{BlockFault, Clock, Executor, Head, Reply, Word};
 use frame_reader::{Frames, Unit};
-use line_grammar::{BlockFault, Head, KvHeads, LineFault, read_line};
+use line_grammar::{KvHeads, LineFault, read_line};
 use reply_print::{Wrote, write_reply};
 
 // Sends the text of a reply, or nothing where no answer is to be sent.
-fn send<L: Link>(link: &mut L, reply: &Reply, silent: bool) -> Result<(), Stop>
+fn send<L: Gathers>(link: &mut L, reply: &Reply, silent: bool) -> Result<(), Stop>
     requires { length (reply_text reply.now) < 2 ^ 64 }
-    ensures sends { Sends (L.sent link.old) (L.sent link.new) (L.write_faults link.old) (L.write_faults link.new)
-        (L.refusals link.old) (L.refusals link.new) (if silent then [] else reply_text reply.now) result }
-    ensures source { TookNothing (L.left link.old) (L.left link.new) (L.read_faults link.old) (L.read_faults link.new) }
+    ensures sends { Sends (outgoing (L.sent link.old) (L.write_faults link.old) (L.refusals link.old))
+        (outgoing (L.sent link.new) (L.write_faults link.new) (L.refusals link.new)) (if silent then [] else reply_text reply.now) result }
+    ensures incoming { incoming (L.left link.new) (L.read_faults link.new) ≡ incoming (L.left link.old) (L.read_faults link.old) }
 {
     if silent {
         return Ok(());
     }
+    if link.put(reply) {
+        return Ok(());
+    }
+    send_long(link, reply)
+}
+
+// Sends the text of a reply that has no room among those that wait.
+fn send_long<L: Gathers>(link: &mut L, reply: &Reply) -> Result<(), Stop>
+    requires { length (reply_text reply.now) < 2 ^ 64 }
+    ensures sends { Sends (outgoing (L.sent link.old) (L.write_faults link.old) (L.refusals link.old))
+        (outgoing (L.sent link.new) (L.write_faults link.new) (L.refusals link.new)) (reply_text reply.now) result }
+    ensures incoming { incoming (L.left link.new) (L.read_faults link.new) ≡ incoming (L.left link.old) (L.read_faults link.old) }
+{
+    link.never_asks_again();
     match write_reply(reply, 0, link) {
         Wrote::Done => Ok(()),
         Wrote::Failed(_) => Err(Stop::Failed),
         Wrote::NoMemory(_) => Err(Stop::NoMemory),
+        Wrote::Again(_) => {
+            link.never_asks_again();
+            unreachable!()
+        }
     }
 }
 
 // Sends a word as a line, or nothing where no answer is to be sent.
-fn send_word<L: Link>(link: &mut L, word: Word, silent: bool) -> Result<(), Stop>
-    ensures sends { Sends (L.sent link.old) (L.sent link.new) (L.write_faults link.old) (L.write_faults link.new)
-        (L.refusals link.old) (L.refusals link.new) (if silent then [] else word_line word) result }
-    ensures source { TookNothing (L.left link.old) (L.left link.new) (L.read_faults link.old) (L.read_faults link.new) }
+fn send_word<L: Gathers>(link: &mut L, word: Word, silent: bool) -> Result<(), Stop>
+    ensures sends { Sends (outgoing (L.sent link.old) (L.write_faults link.old) (L.refusals link.old))
+        (outgoing (L.sent link.new) (L.write_faults link.new) (L.refusals link.new)) (if silent then [] else word_line word) result }
+    ensures incoming { incoming (L.left link.new) (L.read_faults link.new) ≡ incoming (L.left link.old) (L.read_faults link.old) }
 {
     send(link, &Reply::Word(word), silent)
 }
@@ -52,10 +71,10 @@ fn is_silent(line: &[u8]) -> bool
 }
 
 // Answers a unit of this line with a word of the session itself.
-fn answer_itself<L: Link>(link: &mut L, line: &[u8], word: Word) -> Result<(), Stop>
-    ensures sends { Sends (L.sent link.old) (L.sent link.new) (L.write_faults link.old) (L.write_faults link.new)
-        (L.refusals link.old) (L.refusals link.new) (sent_for line.now (word_line word)) result }
-    ensures source { TookNothing (L.left link.old) (L.left link.new) (L.read_faults link.old) (L.read_faults link.new) }
+fn answer_itself<L: Gathers>(link: &mut L, line: &[u8], word: Word) -> Result<(), Stop>
+    ensures sends { Sends (outgoing (L.sent link.old) (L.write_faults link.old) (L.refusals link.old))
+        (outgoing (L.sent link.new) (L.write_faults link.new) (L.refusals link.new)) (sent_for line.now (word_line word)) result }
+    ensures incoming { incoming (L.left link.new) (L.read_faults link.new) ≡ incoming (L.left link.old) (L.read_faults link.old) }
 {
     let silent = is_silent(line);
     send_word(link, word, silent)
@@ -63,20 +82,20 @@ fn answer_itself<L: Link>(link: &mut L, line: &[u8], word: Word) -> Result<(), S
 
 // Executes the request of a head and its block at the clock's second, and answers. A block that is not the keys that
 // its line names is answered by the session.
-fn execute<'a, E: Executor, C: Clock, L: Link>(
+fn execute<'a, E: Executor, C: Clock, L: Gathers>(
     exec: &mut E,
     clock: &mut C,
     link: &mut L,
     head: Head<'a>,
     block: &'a [u8],
 ) -> Result<(), Stop>
-    requires spelled { (line : List ℕ) × IsHead line (plain_head head) }
-    requires block { IsBlockFor (plain_head head).command block.now }
-    requires goes_on { is_quit (plain_head head).command ≡ false }
-    ensures told { IsTold (TellsHead (plain_head head.entry) block.now)
-        (stand (E.state exec.old) (C.coming clock.old) (L.sent link.old) (L.write_faults link.old) (L.refusals link.old))
-        (stand (E.state exec.new) (C.coming clock.new) (L.sent link.new) (L.write_faults link.new) (L.refusals link.new)) result }
-    ensures source { TookNothing (L.left link.old) (L.left link.new) (L.read_faults link.old) (L.read_faults link.new) }
+    requires spelled { (line : List ℕ) × IsHead line head }
+    requires block { IsBlockFor head.command block.now }
+    requires goes_on { is_quit head.command ≡ false }
+    ensures told { IsTold (TellsHead head.entry block.now)
+        (stand (E.state exec.old) (C.coming clock.old) (outgoing (L.sent link.old) (L.write_faults link.old) (L.refusals link.old)))
+        (stand (E.state exec.new) (C.coming clock.new) (outgoing (L.sent link.new) (L.write_faults link.new) (L.refusals link.new))) result }
+    ensures incoming { incoming (L.left link.new) (L.read_faults link.new) ≡ incoming (L.left link.old) (L.read_faults link.old) }
 {
     let silent = head.is_silent();
     match head.with_block(block) {
@@ -90,7 +109,7 @@ fn execute<'a, E: Executor, C: Clock, L: Link>(
 }
 
 // Answers a line with its block, which is empty where the line asks for none.
-fn answer_line<E: Executor, C: Clock, L: Link>(
+fn answer_line<E: Executor, C: Clock, L: Gathers>(
     exec: &mut E,
     clock: &mut C,
     link: &mut L,
@@ -99,9 +118,9 @@ fn answer_line<E: Executor, C: Clock, L: Link>(
 ) -> Result<(), Stop>
     requires { HasItsBlock line.now block.now }
     ensures handles { HandlesLine line.now block.now
-        (stand (E.state exec.old) (C.coming clock.old) (L.sent link.old) (L.write_faults link.old) (L.refusals link.old))
-        (stand (E.state exec.new) (C.coming clock.new) (L.sent link.new) (L.write_faults link.new) (L.refusals link.new)) result }
-    ensures source { TookNothing (L.left link.old) (L.left link.new) (L.read_faults link.old) (L.read_faults link.new) }
+        (stand (E.state exec.old) (C.coming clock.old) (outgoing (L.sent link.old) (L.write_faults link.old) (L.refusals link.old)))
+        (stand (E.state exec.new) (C.coming clock.new) (outgoing (L.sent link.new) (L.write_faults link.new) (L.refusals link.new))) result }
+    ensures incoming { incoming (L.left link.new) (L.read_faults link.new) ≡ incoming (L.left link.old) (L.read_faults link.old) }
 {
     match read_line(line) {
         Ok(head) => {
@@ -116,7 +135,7 @@ fn answer_line<E: Executor, C: Clock, L: Link>(
 }
 
 // Answers a unit that is whole.
-fn answer_unit<E: Executor, C: Clock, L: Link>(
+fn answer_unit<E: Executor, C: Clock, L: Gathers>(
     exec: &mut E,
     clock: &mut C,
     link: &mut L,
@@ -124,9 +143,9 @@ fn answer_unit<E: Executor, C: Clock, L: Link>(
 ) -> Result<(), Stop>
     requires { IfSome (whole_of unit.now) (λ whole. (span : List ℕ) × IsSpan line_needs span whole) }
     ensures handles { IfSome (whole_of unit.now) (λ whole. HandlesUnit whole
-        (stand (E.state exec.old) (C.coming clock.old) (L.sent link.old) (L.write_faults link.old) (L.refusals link.old))
-        (stand (E.state exec.new) (C.coming clock.new) (L.sent link.new) (L.write_faults link.new) (L.refusals link.new)) result) }
-    ensures source { TookNothing (L.left link.old) (L.left link.new) (L.read_faults link.old) (L.read_faults link.new) }
+        (stand (E.state exec.old) (C.coming clock.old) (outgoing (L.sent link.old) (L.write_faults link.old) (L.refusals link.old)))
+        (stand (E.state exec.new) (C.coming clock.new) (outgoing (L.sent link.new) (L.write_faults link.new) (L.refusals link.new))) result) }
+    ensures incoming { incoming (L.left link.new) (L.read_faults link.new) ≡ incoming (L.left link.old) (L.read_faults link.old) }
 {
     match unit {
         Unit::Line(line) => answer_line(exec, clock, link, line, b""),
@@ -142,7 +161,7 @@ fn answer_unit<E: Executor, C: Clock, L: Link>(
 }
 
 // Takes bytes from the front of the piece until a unit is whole, and handles that unit. Tells how many were taken.
-fn take_unit<E: Executor, C: Clock, L: Link>(
+fn take_unit<E: Executor, C: Clock, L: Gathers>(
     frames: &mut Frames<KvHeads>,
     exec: &mut E,
     clock: &mut C,
@@ -154,12 +173,12 @@ fn take_unit<E: Executor, C: Clock, L: Link>(
     ensures count { IfOk result (λ count. (0 < count) × (count ≤ length piece.now)) }
     ensures at_end { OnOk result (IsBetweenUnits frames.new) }
     ensures goes { (from : Stand) (taken : List ℕ) → GoesOn from
-        (stand (E.state exec.old) (C.coming clock.old) (L.sent link.old) (L.write_faults link.old) (L.refusals link.old))
+        (stand (E.state exec.old) (C.coming clock.old) (outgoing (L.sent link.old) (L.write_faults link.old) (L.refusals link.old)))
         taken frames.old piece.now
         → Takes from
-        (stand (E.state exec.new) (C.coming clock.new) (L.sent link.new) (L.write_faults link.new) (L.refusals link.new))
+        (stand (E.state exec.new) (C.coming clock.new) (outgoing (L.sent link.new) (L.write_faults link.new) (L.refusals link.new)))
         taken frames.new piece.now result }
-    ensures source { TookNothing (L.left link.old) (L.left link.new) (L.read_faults link.old) (L.read_faults link.new) }
+    ensures incoming { incoming (L.left link.new) (L.read_faults link.new) ≡ incoming (L.left link.old) (L.read_faults link.old) }
 {
     let count = frames.feed(piece);
     match frames.unit() {
@@ -179,7 +198,7 @@ fn take_unit<E: Executor, C: Clock, L: Link>(
 ///
 /// `Failed` and `NoMemory` come where a text was not sent whole, `LineTooLong` behind a line that is too long, and
 /// `Quit` behind `quit`; the frames are of no use then, and bytes behind that unit are passed over.
-pub fn take_piece<E: Executor, C: Clock, L: Link>(
+pub fn take_piece<E: Executor, C: Clock, L: Gathers>(
     frames: &mut Frames<KvHeads>,
     exec: &mut E,
     clock: &mut C,
@@ -189,12 +208,12 @@ pub fn take_piece<E: Executor, C: Clock, L: Link>(
     requires { IsBetweenUnits frames.old }
     ensures at_end { OnOk result (IsBetweenUnits frames.new) }
     ensures goes { (from : Stand) (taken : List ℕ) → GoesOn from
-        (stand (E.state exec.old) (C.coming clock.old) (L.sent link.old) (L.write_faults link.old) (L.refusals link.old))
+        (stand (E.state exec.old) (C.coming clock.old) (outgoing (L.sent link.old) (L.write_faults link.old) (L.refusals link.old)))
         taken frames.old piece.now
         → TakesAll from
-        (stand (E.state exec.new) (C.coming clock.new) (L.sent link.new) (L.write_faults link.new) (L.refusals link.new))
-        taken frames.new result }
-    ensures source { TookNothing (L.left link.old) (L.left link.new) (L.read_faults link.old) (L.read_faults link.new) }
+        (stand (E.state exec.new) (C.coming clock.new) (outgoing (L.sent link.new) (L.write_faults link.new) (L.refusals link.new)))
+        taken (length piece.now) frames.new result }
+    ensures incoming { incoming (L.left link.new) (L.read_faults link.new) ≡ incoming (L.left link.old) (L.read_faults link.old) }
 {
     let mut rest = piece;
     while !rest.is_empty() {

@@ -41,6 +41,14 @@ some_fails p xs i h =
     let within : position_or_len (λ b. not (p b)) xs < length xs = omega (arith, place.0, place.1) in
     list_all_at p xs (position_or_len (λ b. not (p b)) xs) 0 within (false_from_not _ (passes_at_first (λ b. not (p b)) xs 0 within))
 
+none_by : (p : ℕ → Bool) (xs : List ℕ) (o : Option ℕ) → list_all p xs ≡ true → position (λ b. not (p b)) xs ≡ o → o ≡ None
+none_by p xs None all is = refl
+none_by p xs (Some i) all is = absurd (false≢true (sym (some_fails p xs i is) ∙ all))
+
+-- where each passes it, none fails
+pub none_fails : (p : ℕ → Bool) (xs : List ℕ) → list_all p xs ≡ true → position (λ b. not (p b)) xs ≡ None
+none_fails p xs all = none_by p xs (position (λ b. not (p b)) xs) all refl
+
 -- the two tests for a hexadecimal digit agree
 same_digit : (b : ℕ) → is_ascii_hexdigit b ≡ is_hex_digit b
 same_digit b = grind (arith, nat_tests)

@@ -1,6 +1,8 @@
 //! Bkeys and element flags as words of the protocol: read from a word, and printed.
 //!
 //! Nothing here takes memory.
+//!
+//! `read` reads words, `faults` says what is wrong with others, `print` prints.
 #![tactic(auto)]
 
 mod faults;

@@ -1,18 +1,14 @@
 //! Reading bkeys and element flags.
-ghost use Rattle.std.specs.Prelude.{◌≡◌, ◌+◌, ◌^◌, ◌<◌, ◌≤◌, length, not, position, true};
+ghost use Rattle.std.specs.Prelude.{◌≡◌, ◌+◌, ◌^◌, ◌<◌, ◌≤◌, length, not, position, Some, None};
 ghost use Rattle.std.specs.Char.{is_ascii_digit, is_ascii_hexdigit};
-ghost use Rattle.std.specs.List.{list_all};
 ghost use Rattle.std.specs.Result.{result_ok, result_err};
-ghost use Rattle.arc_core.specs.Words.{number_below, number_of};
+ghost use Rattle.arc_core.specs.Words.{number_below};
 ghost use Rattle.arc_core.specs.HexText.{short_bytes, eflag_word};
 ghost use Rattle.arc_core.specs.BkeyText.{bkey_word};
 ghost use Rattle.bkey_order.specs.BkeyFaults.{hex_fault, number_fault, bkey_fault, eflag_fault};
 
 use crate::BkeyFault;
-use arc_core::{Bkey, Eflag, ShortBytes, hex_digits};
-
-/// The most decimal digits of a number.
-const MAX_DIGITS: usize = 20;
+use arc_core::{Bkey, Eflag, MAX_DIGITS, ShortBytes, hex_digits, read_number};
 
 /// Reads a word as a bkey: a number of 64 bits, or `0x` and the hexadecimal digits of 1 to 31 bytes.
 ///
@@ -26,7 +22,7 @@ pub fn read_bkey(word: &[u8]) -> Result<Bkey, BkeyFault>
 {
     match hex_digits(word) {
         Some(digits) => Ok(Bkey::Bytes(read_bytes(digits)?)),
-        None => Ok(Bkey::Number(read_number(word)?)),
+        None => Ok(Bkey::Number(number_of_word(word)?)),
     }
 }
 
@@ -65,33 +61,34 @@ fn read_bytes(digits: &[u8]) -> Result<ShortBytes, BkeyFault>
 }
 
 // Reads a word as a number of 64 bits.
-fn read_number(word: &[u8]) -> Result<u64, BkeyFault>
+#[tactic(auto, unfolding(arc_core::specs::Words::number_below))]
+fn number_of_word(word: &[u8]) -> Result<u64, BkeyFault>
     ensures value { result_ok result ≡ number_below (2 ^ 64) word.now }
     ensures fault { result_err result ≡ number_fault word.now }
 {
-    if word.is_empty() {
-        return Err(BkeyFault::Empty);
+    match read_number(word, u64::MAX) {
+        Some(number) => Ok(number),
+        None => Err(fault_of_number(word)),
     }
-    if let Some(place) = first_bad_digit(word) {
-        return Err(BkeyFault::BadDigit(place));
-    }
-    if word.len() > MAX_DIGITS {
-        return Err(BkeyFault::TooLong);
-    }
-    u64::try_from(value_of(word)).ok().ok_or(BkeyFault::TooBig)
 }
 
-// The number that up to 20 decimal digits spell.
-fn value_of(digits: &[u8]) -> u128
-    requires most { length digits.now ≤ 20 }
-    requires digits { list_all is_ascii_digit digits.now ≡ true }
-    ensures { result ≡ number_of digits.now }
+// What is wrong with a word that is no number of 64 bits.
+#[tactic(auto, unfolding(arc_core::specs::Words::number_below))]
+fn fault_of_number(word: &[u8]) -> BkeyFault
+    requires { number_below (2 ^ 64) word.now ≡ None }
+    ensures { Some result ≡ number_fault word.now }
 {
-    let mut value = 0;
-    for digit in digits {
-        value = 10 * value + u128::from(*digit - b'0');
+    if word.is_empty() {
+        return BkeyFault::Empty;
     }
-    value
+    if let Some(place) = first_bad_digit(word) {
+        return BkeyFault::BadDigit(place);
+    }
+    if word.len() > MAX_DIGITS {
+        BkeyFault::TooLong
+    } else {
+        BkeyFault::TooBig
+    }
 }
 
 // The place of the first byte that is no hexadecimal digit.

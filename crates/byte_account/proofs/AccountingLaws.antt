@@ -6,13 +6,13 @@ use Rattle.std.specs.Ordering.{nat_cmp}
 use Rattle.std.specs.Cmp.Lexicographic.{slice_cmp}
 use Rattle.std.specs.FinMap as finite
 use Rattle.std.proofs.lemmas.List.{nil_from_length}
-use Rattle.arc_core.specs.Places.{Places, HasEachKeyOnce, empty_places, found, others, touched, placed, refilled, without, weight_of, total_of}
+use Rattle.arc_core.specs.Places.{Places, HasEachKeyOnce, empty_places, found, others, brought_to_front, placed, refilled, without, weight_of, total_of}
 use Rattle.arc_core.specs.Room.{evicted, survivors}
 use Rattle.byte_account.specs.Accounting.{IsAccounted}
 use Rattle.byte_account.specs.ShelfWords.{listed_at, stuck_at}
 use Rattle.byte_account.specs.Weight.{place_weight, weight_under}
 use Rattle.byte_account.proofs.ShelfLists.{IsDistinct-nil, set_value-absent}
-use Rattle.byte_account.proofs.PlacesLaws.{absent_from_shelf, absent_from_sticky, found-shelf, found-sticky, not_on_shelf, placed-new, placed-moved_sticky, placed-moved_listed, HasEachKeyOnce-touched, HasEachKeyOnce-placed, HasEachKeyOnce-refilled, HasEachKeyOnce-without, HasEachKeyOnce-evicted, total-touched, total-placed, total-refilled, total-without}
+use Rattle.byte_account.proofs.PlacesLaws.{absent_from_shelf, absent_from_sticky, found-shelf, found-sticky, not_on_shelf, placed-new, placed-moved_sticky, placed-moved_listed, HasEachKeyOnce-brought_to_front, HasEachKeyOnce-placed, HasEachKeyOnce-refilled, HasEachKeyOnce-without, HasEachKeyOnce-evicted, total-brought_to_front, total-placed, total-refilled, total-without}
 
 module _ {X : Type 0} where
   -- where the key has no place, there is none to refill
@@ -64,9 +64,9 @@ module _ {X : Type 0} (weigh : List ℕ → X → ℕ) where
         let was : total ≡ total_of weigh places = accounted.sum in
         record { sum = omega arith; within = omega arith; once = once }
 
-  pub IsAccounted-touched : (key : List ℕ) (places : Places X) (total : ℕ) → IsAccounted weigh places total → IsAccounted weigh (touched key places) total
-  IsAccounted-touched key places total accounted =
-      IsAccounted-same places (touched key places) total accounted (HasEachKeyOnce-touched key places accounted.once) refl (total-touched weigh key places accounted.once)
+  pub IsAccounted-brought_to_front : (key : List ℕ) (places : Places X) (total : ℕ) → IsAccounted weigh places total → IsAccounted weigh (brought_to_front key places) total
+  IsAccounted-brought_to_front key places total accounted =
+      IsAccounted-same places (brought_to_front key places) total accounted (HasEachKeyOnce-brought_to_front key places accounted.once) refl (total-brought_to_front weigh key places accounted.once)
 
   -- a new place that weighs nothing
   pub IsAccounted-reserved : (sticky : Bool) (key : List ℕ) (x : X) (places : Places X) (total : ℕ) → IsAccounted weigh places total → found key places ≡ None → weigh key x ≡ 0 → IsAccounted weigh (placed sticky key x places) total

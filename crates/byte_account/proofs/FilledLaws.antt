@@ -9,7 +9,7 @@ use Rattle.std.specs.FinMap.Entries.{below_all}
 use Rattle.std.specs.FinMap.{FinMap, is_sorted, find}
 use Rattle.std.specs.FinMap as finite
 use Rattle.std.proofs.lemmas.List.{length-map}
-use Rattle.arc_core.specs.Places.{Places, HasEachKeyOnce, found, others, count_of, to_front, shelved, touched, placed, refilled, without, weight_of, total_of, sticky_total_of}
+use Rattle.arc_core.specs.Places.{Places, HasEachKeyOnce, found, others, count_of, to_front, shelved, brought_to_front, placed, refilled, without, weight_of, total_of, sticky_total_of}
 use Rattle.arc_core.specs.Room.{shortest_suffix, survivors, evicted, fits, share_fits, least_eviction, room}
 use Rattle.byte_account.specs.declared.room.Room.TheVariants.{Fits}
 use Rattle.byte_account.specs.ShelfWords.{room_answer}
@@ -116,7 +116,7 @@ module _ {X Y : Type 0} (f : X → Y) where
       ap (λ n. n + weight_of weigh (finite.entries (map_values f places.sticky))) (weight-map weigh places.shelf)
       ∙ ap (λ n. weight_of (λ key x. weigh key (f x)) places.shelf + n) (sticky_total-map weigh places)
 
-  pub touched-map : (key : List ℕ) (places : Places X) → touched key (map_places f places) ≡ map_places f (touched key places)
+  pub touched-map : (key : List ℕ) (places : Places X) → brought_to_front key (map_places f places) ≡ map_places f (brought_to_front key places)
   touched-map key places = λ i. record { shelf = to_front-map key places.shelf i; sticky = map_values f places.sticky; limit = places.limit; share = places.share }
 
   pub placed-map : (sticky : Bool) (key : List ℕ) (x : X) (places : Places X) → placed sticky key (f x) (map_places f places) ≡ map_places f (placed sticky key x places)

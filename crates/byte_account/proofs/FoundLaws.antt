@@ -6,7 +6,7 @@ use Rattle.std.specs.Ordering.{nat_cmp}
 use Rattle.std.specs.Cmp.Lexicographic.{slice_cmp}
 use Rattle.std.specs.FinMap.{FinMap}
 use Rattle.std.specs.FinMap as finite
-use Rattle.arc_core.specs.Places.{Places, found, others, to_front, touched, placed, refilled, without}
+use Rattle.arc_core.specs.Places.{Places, found, others, to_front, brought_to_front, placed, refilled, without}
 use Rattle.arc_core.specs.Room.{survivors, evicted}
 use Rattle.byte_account.specs.ShelfWords.{on_side, restuck}
 use Rattle.byte_account.proofs.ShelfLists.{own_key, others-absent, lookup-others, lookup-others_apart, lookup-to_front, lookup-set_value, lookup-shelved, lookup-shelved_apart, set_value-absent}
@@ -48,8 +48,8 @@ module _ {X : Type 0} (key : List ℕ) where
   pub found-refilled : (x old : X) (places : Places X) → found key places ≡ Some old → found key (refilled key x places) ≡ Some x
   found-refilled x old places held = refilled_by x old places (lookup (bytes_eq key) places.shelf) (finite.get places.sticky key) refl refl held
 
-  pub found-touched : (q : List ℕ) (places : Places X) → found q (touched key places) ≡ found q places
-  found-touched q places = ap (λ o. option_or o (finite.get places.sticky q)) (lookup-to_front key q places.shelf)
+  pub found-brought_to_front : (q : List ℕ) (places : Places X) → found q (brought_to_front key places) ≡ found q places
+  found-brought_to_front q places = ap (λ o. option_or o (finite.get places.sticky q)) (lookup-to_front key q places.shelf)
 
   -- the key's own place survives
   survivors-own : (n : ℕ) (place : List ℕ × X) (older : List (List ℕ × X)) (b : Bool) → bytes_eq key place.0 ≡ b → lookup (bytes_eq key) (survivors key n older) ≡ lookup (bytes_eq key) older
@@ -85,7 +85,7 @@ module _ {X : Type 0} (key : List ℕ) where
       ∙ ap (option_or (lookup (bytes_eq q) places.shelf)) (get-remove places.sticky key q ∙ ap (λ b. cond b None (finite.get places.sticky q)) apart)
 
 -- nothing changes under a key that has no place
-pub touched-absent : {X : Type 0} (key : List ℕ) (places : Places X) → found key places ≡ None → touched key places ≡ places
+pub touched-absent : {X : Type 0} (key : List ℕ) (places : Places X) → found key places ≡ None → brought_to_front key places ≡ places
 touched-absent key places absent =
     let same : to_front key places.shelf ≡ places.shelf = ap (λ o. option_map_or (λ x. (key, x) ∷ others key places.shelf) o places.shelf) (absent_from_shelf key places absent) in
     λ i. record { shelf = same i; sticky = places.sticky; limit = places.limit; share = places.share }

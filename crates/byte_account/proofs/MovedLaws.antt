@@ -9,7 +9,7 @@ use Rattle.std.specs.Ordering.{nat_cmp}
 use Rattle.std.specs.Cmp.Lexicographic.{slice_cmp}
 use Rattle.std.specs.FinMap.{FinMap}
 use Rattle.std.specs.FinMap as finite
-use Rattle.arc_core.specs.Places.{Places, HasEachKeyOnce, found, others, to_front, shelved, touched, placed, refilled, without, weight_of, total_of, sticky_total_of}
+use Rattle.arc_core.specs.Places.{Places, HasEachKeyOnce, found, others, to_front, shelved, brought_to_front, placed, refilled, without, weight_of, total_of, sticky_total_of}
 use Rattle.arc_core.specs.Room.{shortest_suffix, survivors, evicted, fits, room}
 use Rattle.byte_account.specs.ShelfWords.{on_side}
 use Rattle.byte_account.specs.Weight.{weight_under}
@@ -134,7 +134,7 @@ module _ {X : Type 0} (key : List ℕ) where
       λ i. record { shelf = on_shelf i; sticky = finite.remove places.sticky key; limit = places.limit; share = places.share }
 
   -- a new place is the front
-  pub touched-new : (sticky : Bool) (x : X) (places : Places X) → found key places ≡ None → touched key (placed sticky key x places) ≡ placed sticky key x places
+  pub touched-new : (sticky : Bool) (x : X) (places : Places X) → found key places ≡ None → brought_to_front key (placed sticky key x places) ≡ placed sticky key x places
   touched-new true x places absent =
       let on_shelf = to_front_absent (others key places.shelf) (lookup-others key places.shelf) in
       λ i. record { shelf = on_shelf i; sticky = finite.insert places.sticky key x; limit = places.limit; share = places.share }
@@ -144,7 +144,7 @@ module _ {X : Type 0} (key : List ℕ) where
       λ i. record { shelf = on_shelf i; sticky = finite.remove places.sticky key; limit = places.limit; share = places.share }
 
   -- what is used after it stands for another that is gone is in front, as what is new
-  pub touched-anew : (sticky : Bool) (x : X) (n : ℕ) (places : Places X) → touched key (placed sticky key x (evicted key n places)) ≡ placed sticky key x (evicted key n (without key places))
+  pub touched-anew : (sticky : Bool) (x : X) (n : ℕ) (places : Places X) → brought_to_front key (placed sticky key x (evicted key n places)) ≡ placed sticky key x (evicted key n (without key places))
   touched-anew true x n places =
       let on_shelf = to_front_absent (others key (survivors key n places.shelf)) (lookup-others key (survivors key n places.shelf)) ∙ sym (others-others (survivors key n places.shelf)) ∙ sym (ap (others key) (others-survivors n places.shelf)) in
       λ i. record { shelf = on_shelf i; sticky = sym (insert-replaces (λ k y. 0) places.sticky key x) i; limit = places.limit; share = places.share }

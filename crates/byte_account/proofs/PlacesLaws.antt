@@ -3,7 +3,7 @@ use Rattle.std.proofs.Common.{◌≡◌, ℕ, ◌+◌, Bool, true, false, cond, 
 use Rattle.std.specs.Option.{option_or}
 use Rattle.std.specs.Map.{lookup, set_value}
 use Rattle.std.specs.FinMap as finite
-use Rattle.arc_core.specs.Places.{Places, HasEachKeyOnce, found, others, shelved, touched, placed, refilled, without, weight_of, total_of}
+use Rattle.arc_core.specs.Places.{Places, HasEachKeyOnce, found, others, shelved, brought_to_front, placed, refilled, without, weight_of, total_of}
 use Rattle.byte_account.specs.ShelfWords.{listed_at, stuck_at}
 use Rattle.byte_account.specs.Weight.{weight_under}
 use Rattle.byte_account.proofs.ShelfLists.{IsAbsent, same_key, others-absent, lookup-others, lookup-others_apart, AreApart-others, AreApart-to_front, AreApart-set_value, AreApart-shelved, lookup-to_front, is_some-set_value, lookup-shelved_apart, shelved-new, set_value-absent, weight-others, weight-to_front, weight-set_value, weight-shelved}
@@ -66,8 +66,8 @@ module _ {X : Type 0} where
 
   -- each key has one place at most, after each change
 
-  pub HasEachKeyOnce-touched : (key : List ℕ) (places : Places X) → HasEachKeyOnce places → HasEachKeyOnce (touched key places)
-  HasEachKeyOnce-touched key places once =
+  pub HasEachKeyOnce-brought_to_front : (key : List ℕ) (places : Places X) → HasEachKeyOnce places → HasEachKeyOnce (brought_to_front key places)
+  HasEachKeyOnce-brought_to_front key places once =
       record { on_shelf = AreApart-to_front key places.shelf once.on_shelf; on_one_side = λ q there. once.on_one_side q (ap is_some (sym (lookup-to_front key q places.shelf)) ∙ there) }
 
   sticky_placed : (key : List ℕ) (x : X) (places : Places X) → HasEachKeyOnce places → (q : List ℕ) (b : Bool) → bytes_eq q key ≡ b → IsSome (lookup (bytes_eq q) (others key places.shelf)) → cond b (Some x) (finite.get places.sticky q) ≡ None
@@ -124,8 +124,8 @@ module _ {X : Type 0} where
       record { on_shelf = AreApart-survivors key n places.shelf once.on_shelf; on_one_side = λ q there. once.on_one_side q (is_some-survivors key n q places.shelf there) }
 
 module _ {X : Type 0} (weigh : List ℕ → X → ℕ) where
-  pub total-touched : (key : List ℕ) (places : Places X) → HasEachKeyOnce places → total_of weigh (touched key places) ≡ total_of weigh places
-  total-touched key places once = ap (λ n. n + weight_of weigh (finite.entries places.sticky)) (weight-to_front weigh key places.shelf once.on_shelf)
+  pub total-brought_to_front : (key : List ℕ) (places : Places X) → HasEachKeyOnce places → total_of weigh (brought_to_front key places) ≡ total_of weigh places
+  total-brought_to_front key places once = ap (λ n. n + weight_of weigh (finite.entries places.sticky)) (weight-to_front weigh key places.shelf once.on_shelf)
 
   -- an item that is put under a key adds its weight, less that of what stood there
   placed_by : (sticky : Bool) (key : List ℕ) (x : X) (places : Places X) (on_shelf in_sticky : Option X) → lookup (bytes_eq key) places.shelf ≡ on_shelf → finite.get places.sticky key ≡ in_sticky → (IsSome on_shelf → in_sticky ≡ None)

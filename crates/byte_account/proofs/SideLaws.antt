@@ -6,7 +6,7 @@ use Rattle.std.specs.Ordering.{nat_cmp}
 use Rattle.std.specs.Cmp.Lexicographic.{slice_cmp}
 use Rattle.std.specs.FinMap.{FinMap}
 use Rattle.std.specs.FinMap as finite
-use Rattle.arc_core.specs.Places.{Places, HasEachKeyOnce, empty_places, found, others, shelved, touched, placed, without}
+use Rattle.arc_core.specs.Places.{Places, HasEachKeyOnce, empty_places, found, others, shelved, brought_to_front, placed, without}
 use Rattle.arc_core.specs.Room.{survivors, evicted}
 use Rattle.byte_account.specs.Sides.{AllOnSides}
 use Rattle.byte_account.proofs.ShelfLists.{IsAbsent, AreApart, IsAbsent-head, AreApart-tail, IsAbsent-differs, same_key, lookup-others, lookup-others_apart, lookup-to_front, lookup-shelved, lookup-shelved_apart}
@@ -26,8 +26,8 @@ module _ {X : Type 0} (Good : Bool → X → Type 0) where
     sticky = λ q x h. absurd (none_there x (finite.get finite.empty q) (finite.get-empty (slice_cmp nat_cmp) q) h);
   }
 
-  pub AllOnSides-touched : (key : List ℕ) (places : Places X) → AllOnSides Good places → AllOnSides Good (touched key places)
-  AllOnSides-touched key places good = record {
+  pub AllOnSides-brought_to_front : (key : List ℕ) (places : Places X) → AllOnSides Good places → AllOnSides Good (brought_to_front key places)
+  AllOnSides-brought_to_front key places good = record {
     on_shelf = λ q x h. good.on_shelf q x (sym (lookup-to_front key q places.shelf) ∙ h);
     sticky = good.sticky;
   }

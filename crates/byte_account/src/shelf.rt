@@ -4,7 +4,7 @@ ghost use Rattle.std.specs.Option.{option_or, option_flatten};
 ghost use Rattle.std.specs.List.{IsDistinct};
 ghost use Rattle.std.specs.Map.{keys_of, lookup, set_value};
 ghost use Rattle.std.specs.FinMap as finite;
-ghost use Rattle.arc_core.specs.Places.{Places, HasEachKeyOnce, empty_places, found, others, count_of, total_of, sticky_total_of, touched, placed, refilled, without};
+ghost use Rattle.arc_core.specs.Places.{Places, HasEachKeyOnce, empty_places, found, others, count_of, total_of, sticky_total_of, brought_to_front, placed, refilled, without};
 ghost use Rattle.arc_core.specs.Room.{room, share_fits, evicted};
 ghost use Rattle.byte_account.specs.Accounting.{HasShareFor};
 ghost use Rattle.byte_account.specs.LeastEviction.{IsLeastEviction};
@@ -106,7 +106,7 @@ impl<T: Weighs> Shelf<T> {
 
     /// Marks the key as used: where it has a place that is not sticky, that moves to the front. Else nothing changes.
     pub fn touch(&mut self, key: &[u8])
-        ensures places { self.new ≡ touched key.now self.old }
+        ensures places { self.new ≡ brought_to_front key.now self.old }
         ensures absent { found key.now self.old ≡ None → self.new ≡ self.old }
     {
         self.list.promote(key);

@@ -9,7 +9,7 @@ use Rattle.arc_core.specs.declared.replies.Reply.TheVariants as reply
 use Rattle.arc_core.specs.declared.replies.Word.TheVariants as word
 use Rattle.arc_core.specs.PlainRequest as act
 use Rattle.arc_core.specs.Item.{Item, key_value, size_of, expiry_of, with_expiry, expiry_at, has_expired, is_sticky}
-use Rattle.arc_core.specs.Places.{Places, found, touched, placed, without, total_of}
+use Rattle.arc_core.specs.Places.{Places, found, brought_to_front, placed, without, total_of}
 use Rattle.arc_core.specs.Room.{room, evicted}
 use Rattle.arc_core.specs.CacheState.{CacheState}
 use Rattle.arc_core.specs.Step.{Plan, room_for, put_behind, plan_of_store, plan_of_count, plan_of_delete, plan_of_touch, carried_out, ended}
@@ -142,7 +142,7 @@ module _ (latest : ℕ) (key : List ℕ) (expiry : Expiry) (old new : Places Ite
   put_is : put_behind 0 key (with_expiry expiry h.item) old ≡ new
   put_is = (λ i. placed (sticky_stays expiry h.item i) key (with_expiry expiry h.item) (evicted-none key old i)) ∙ sym h.places
 
-  pub set_in_step : (used_new : Places Item) → used_new ≡ cond (has_expired latest expiry) new (touched key new) → HasExpiryInStep latest key expiry old used_new
+  pub set_in_step : (used_new : Places Item) → used_new ≡ cond (has_expired latest expiry) new (brought_to_front key new) → HasExpiryInStep latest key expiry old used_new
   set_in_step used_new e =
       let item = with_expiry expiry h.item in
       record {
@@ -150,6 +150,6 @@ module _ (latest : ℕ) (key : List ℕ) (expiry : Expiry) (old new : Places Ite
         held = h.held;
         fits = h.fits;
         places =
-            e ∙ ap (λ q. cond (has_expired latest expiry) q (touched key q)) (sym put_is)
+            e ∙ ap (λ q. cond (has_expired latest expiry) q (brought_to_front key q)) (sym put_is)
             ∙ sym (used_held latest key (put_behind 0 key item old) item (has_expired latest expiry) (found-placed key (is_sticky (expiry_of item)) item (evicted key 0 old)) (ap (has_expired latest) (expiry_is h.item)));
       }

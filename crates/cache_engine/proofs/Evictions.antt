@@ -13,7 +13,7 @@ use Rattle.arc_core.specs.Words.{number_below}
 use Rattle.arc_core.specs.Item.{Item, key_value, size_of, expiry_of, is_sticky}
 use Rattle.arc_core.specs.Places.{placed, total_of}
 use Rattle.arc_core.specs.CacheState.{CacheState, IsState}
-use Rattle.arc_core.specs.Step.{Plan, tell, put, take_away, take_all, extra_of, sticky_extra_of, room_for, put_behind, carried_out, ended, named_keys, started, step, put_joined, plan_of_store, plan_of_next, plan_of_count, plan_of_delete, plan_of_touch, plan_of}
+use Rattle.arc_core.specs.Step.{Plan, answer_only, put, take_away, take_all, extra_of, sticky_extra_of, room_for, put_behind, carried_out, ended, named_keys, started, step, put_joined, plan_of_store, plan_of_next, plan_of_count, plan_of_delete, plan_of_touch, plan_of}
 use Rattle.byte_account.specs.declared.room.Room.TheVariants.{Fits, Nothing}
 use Rattle.byte_account.specs.ShelfWords.{room_answer}
 use Rattle.byte_account.proofs.RoomLaws.{IsLeastEviction-room, room-nothing_added, fits_nothing_added}
@@ -63,13 +63,13 @@ module _ (state : CacheState) (key : List ℕ) (item : Item) where
         room-nothing_added size_of state.places key (extra_of state key item) (sticky_extra_of state key item) (fits_nothing_added state.places.limit (total_of size_of state.places) (extra_of state key item) rules.within no_more) in
         record { least = nothing_by (has_share state key item) none; places = ap outcome none ∙ outcome_by (has_share state key item) }
 
-pub answers : (state new : CacheState) (reply answer : Reply) → carried_out state (tell reply) ≡ Some (new, answer) → new.places ≡ state.places
+pub answers : (state new : CacheState) (reply answer : Reply) → carried_out state (answer_only reply) ≡ Some (new, answer) → new.places ≡ state.places
 answers state new reply answer e = sym (ap (λ o. (unwrap_or {T = CacheState × Reply} o (state, reply)).0.places) e)
 
 -- no row of the table answers `out of memory`
 
 says : Plan → Reply
-says (tell reply) = reply
+says (answer_only reply) = reply
 says (put key item counter reply) = reply
 says (take_away key reply) = reply
 says (take_all reply) = reply
@@ -137,7 +137,7 @@ put_says (Some gone) after reply done e = sym (ap (λ o. (unwrap_or {T = CacheSt
 
 done_says : (state : CacheState) (plan : Plan) (done : CacheState × Reply) → carried_out state plan ≡ Some done → done.1 ≡ says plan
 unfolding says
-done_says state (tell reply) done e = sym (ap (λ o. (unwrap_or {T = CacheState × Reply} o done).1) e)
+done_says state (answer_only reply) done e = sym (ap (λ o. (unwrap_or {T = CacheState × Reply} o done).1) e)
 done_says state (put key item counter reply) done e = put_says (room_for state key item) _ reply done e
 done_says state (take_away key reply) done e = sym (ap (λ o. (unwrap_or {T = CacheState × Reply} o done).1) e)
 done_says state (take_all reply) done e = sym (ap (λ o. (unwrap_or {T = CacheState × Reply} o done).1) e)

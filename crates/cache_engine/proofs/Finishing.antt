@@ -2,7 +2,7 @@
 use Rattle.std.proofs.Common.{◌≡◌, ℕ, Bool, true, false, cond, not, List, [], ◌∷◌, length, Option, Some, None, pos, ◌-ℤ◌, refl, sym, ap, ◌∙◌, subst}
 use Rattle.std.specs.Option.{option_map_or}
 use Rattle.arc_core.specs.Item.{Item, size_of, expiry_of, has_expired, is_sticky}
-use Rattle.arc_core.specs.Places.{Places, found, touched, without}
+use Rattle.arc_core.specs.Places.{Places, found, brought_to_front, without}
 use Rattle.arc_core.specs.Room.{room, evicted}
 use Rattle.arc_core.specs.Step.{sticky_size, without_expired, unexpired, used, used_at, put_behind}
 use Rattle.arc_core.specs.CacheState.{ArePlaced}
@@ -34,8 +34,8 @@ start_expired latest key places old = by_time latest key places old true
 pub used_absent : (latest : ℕ) (key : List ℕ) (places : Places Item) → found key places ≡ None → used latest (key ∷ []) places ≡ places
 used_absent latest key places h = ap (λ o. used_at latest key o places) h
 
-pub used_held : (latest : ℕ) (key : List ℕ) (places : Places Item) (item : Item) (late : Bool) → found key places ≡ Some item → has_expired latest (expiry_of item) ≡ late → used latest (key ∷ []) places ≡ cond late places (touched key places)
-used_held latest key places item late h e = ap (λ o. used_at latest key o places) h ∙ ap (λ b. cond b places (touched key places)) e
+pub used_held : (latest : ℕ) (key : List ℕ) (places : Places Item) (item : Item) (late : Bool) → found key places ≡ Some item → has_expired latest (expiry_of item) ≡ late → used latest (key ∷ []) places ≡ cond late places (brought_to_front key places)
+used_held latest key places item late h e = ap (λ o. used_at latest key o places) h ∙ ap (λ b. cond b places (brought_to_front key places)) e
 
 same_cond : {A : Type 0} (b : Bool) (x y : A) → x ≡ y → cond b x y ≡ x
 same_cond true x y h = refl
@@ -51,7 +51,7 @@ module _ (latest : ℕ) (key : List ℕ) (item : Item) (places : Places Item) wh
   used_new n absent =
       let side = is_sticky (expiry_of item) in
       used_held latest key (put_behind n key item places) item (has_expired latest (expiry_of item)) (found-placed key side item (evicted key n places)) refl
-      ∙ same_cond (has_expired latest (expiry_of item)) (put_behind n key item places) (touched key (put_behind n key item places)) (sym (touched-new key side item (evicted key n places) (found-evicted key n places ∙ absent)))
+      ∙ same_cond (has_expired latest (expiry_of item)) (put_behind n key item places) (brought_to_front key (put_behind n key item places)) (sym (touched-new key side item (evicted key n places) (found-evicted key n places ∙ absent)))
 
   put_absent : (new : Places Item) → found key places ≡ None → IsPutBehind key item places new → IsPutInStep latest key item places new
   put_absent new absent p = record {
@@ -61,12 +61,12 @@ module _ (latest : ℕ) (key : List ℕ) (item : Item) (places : Places Item) wh
   }
 
   put_live : (put new : Places Item) (old : Item) → found key places ≡ Some old → has_expired latest (expiry_of old) ≡ false → IsPutBehind key item places put
-      → new ≡ cond (not (has_expired latest (expiry_of item))) (touched key put) put → IsPutInStep latest key item places new
+      → new ≡ cond (not (has_expired latest (expiry_of item))) (brought_to_front key put) put → IsPutInStep latest key item places new
   put_live put new old there lives p e = record {
     gone = p.gone;
     fits = ap (evicted_for key item) (start_live latest key places old there lives) ∙ p.fits;
     places =
-        e ∙ flip_cond (has_expired latest (expiry_of item)) (touched key put) put ∙ ap (λ q. cond (has_expired latest (expiry_of item)) q (touched key q)) p.places
+        e ∙ flip_cond (has_expired latest (expiry_of item)) (brought_to_front key put) put ∙ ap (λ q. cond (has_expired latest (expiry_of item)) q (brought_to_front key q)) p.places
         ∙ sym (used_held latest key (put_behind (length p.gone) key item places) item (has_expired latest (expiry_of item)) (found-placed key (is_sticky (expiry_of item)) item (evicted key (length p.gone) places)) refl)
         ∙ ap (λ s. used latest (key ∷ []) (put_behind (length p.gone) key item s)) (sym (start_live latest key places old there lives));
   }
@@ -94,28 +94,28 @@ unfolding late_of
 late_is latest o old h = sym (ap (late_of latest) h)
 
 module _ (latest : ℕ) (key : List ℕ) (item : Item) (places : Places Item) where
-  put_expired : (put new : Places Item) (old : Item) → ArePlaced places → found key places ≡ Some old → has_expired latest (expiry_of old) ≡ true → IsPutBehind key item places put → new ≡ touched key put → IsPutInStep latest key item places new
+  put_expired : (put new : Places Item) (old : Item) → ArePlaced places → found key places ≡ Some old → has_expired latest (expiry_of old) ≡ true → IsPutBehind key item places put → new ≡ brought_to_front key put → IsPutInStep latest key item places new
   put_expired put new old once there late p e = record {
     gone = p.gone;
     fits = room_expired latest key item places old once there late ∙ p.fits;
     places =
-        e ∙ ap (touched key) p.places ∙ touched-anew key (is_sticky (expiry_of item)) item (length p.gone) places ∙ sym (used_anew latest key item places (length p.gone))
+        e ∙ ap (brought_to_front key) p.places ∙ touched-anew key (is_sticky (expiry_of item)) item (length p.gone) places ∙ sym (used_anew latest key item places (length p.gone))
         ∙ ap (λ s. used latest (key ∷ []) (put_behind (length p.gone) key item s)) (sym (start_expired latest key places old there late));
   }
 
   -- an item was put, and its key used where it moves
 
   done_by : (o : Option Item) (late : Bool) (s : KeyState) (put new : Places Item) → ArePlaced places → found key places ≡ o → ((old : Item) → o ≡ Some old → has_expired latest (expiry_of old) ≡ late) → s ≡ key_state_of latest o
-      → IsPutBehind key item places put → new ≡ cond (moves latest s (expiry_of item)) (touched key put) put → IsPutInStep latest key item places new
+      → IsPutBehind key item places put → new ≡ cond (moves latest s (expiry_of item)) (brought_to_front key put) put → IsPutInStep latest key item places new
   done_by None late s put new once h time is p e =
-      put_absent latest key item places new h (subst (λ q. IsPutBehind key item places q) (sym (e ∙ ap (λ t. cond (moves latest t (expiry_of item)) (touched key put) put) is)) p)
+      put_absent latest key item places new h (subst (λ q. IsPutBehind key item places q) (sym (e ∙ ap (λ t. cond (moves latest t (expiry_of item)) (brought_to_front key put) put) is)) p)
   done_by (Some old) true s put new once h time is p e =
-      put_expired put new old once h (time old refl) p (e ∙ ap (λ t. cond (moves latest t (expiry_of item)) (touched key put) put) (is ∙ ap (λ b. cond b key_state.Expired key_state.Live) (time old refl)))
+      put_expired put new old once h (time old refl) p (e ∙ ap (λ t. cond (moves latest t (expiry_of item)) (brought_to_front key put) put) (is ∙ ap (λ b. cond b key_state.Expired key_state.Live) (time old refl)))
   done_by (Some old) false s put new once h time is p e =
-      put_live latest key item places put new old h (time old refl) p (e ∙ ap (λ t. cond (moves latest t (expiry_of item)) (touched key put) put) (is ∙ ap (λ b. cond b key_state.Expired key_state.Live) (time old refl)))
+      put_live latest key item places put new old h (time old refl) p (e ∙ ap (λ t. cond (moves latest t (expiry_of item)) (brought_to_front key put) put) (is ∙ ap (λ b. cond b key_state.Expired key_state.Live) (time old refl)))
 
   pub put_done : (s : KeyState) (put new : Places Item) → ArePlaced places → s ≡ key_state_of latest (found key places) → IsPutBehind key item places put
-      → new ≡ cond (moves latest s (expiry_of item)) (touched key put) put → IsPutInStep latest key item places new
+      → new ≡ cond (moves latest s (expiry_of item)) (brought_to_front key put) put → IsPutInStep latest key item places new
   put_done s put new once is p e = done_by (found key places) (late_of latest (found key places)) s put new once refl (late_is latest (found key places)) is p e
 
   -- there is no room either where the key's item has expired

@@ -7,16 +7,16 @@ use Rattle.std.specs.FinMap as finite
 use Rattle.std.proofs.lemmas.List.{length-map}
 use Rattle.arc_core.specs.declared.items.Expiry.{Expiry}
 use Rattle.arc_core.specs.Item.{Item, key_value, IsItem, size_of, expiry_of, is_sticky, with_expiry}
-use Rattle.arc_core.specs.Places.{Places, HasEachKeyOnce, empty_places, found, count_of, total_of, sticky_total_of, touched, placed, without}
+use Rattle.arc_core.specs.Places.{Places, HasEachKeyOnce, empty_places, found, count_of, total_of, sticky_total_of, brought_to_front, placed, without}
 use Rattle.arc_core.specs.Room.{room, evicted}
 use Rattle.arc_core.specs.Step.{sticky_size, put_behind}
 use Rattle.arc_core.specs.CacheState.{ArePlaced}
 use Rattle.byte_account.specs.Sides.{AllOnSides}
 use Rattle.byte_account.specs.Weight.{place_weight, weight_under}
 use Rattle.byte_account.specs.Filled.{map_places, map_values, map_listed, items_of, IsFilled}
-use Rattle.byte_account.proofs.PlacesLaws.{found-shelf, found-sticky, not_on_shelf, HasEachKeyOnce-touched, HasEachKeyOnce-placed, HasEachKeyOnce-without, HasEachKeyOnce-evicted}
+use Rattle.byte_account.proofs.PlacesLaws.{found-shelf, found-sticky, not_on_shelf, HasEachKeyOnce-brought_to_front, HasEachKeyOnce-placed, HasEachKeyOnce-without, HasEachKeyOnce-evicted}
 use Rattle.byte_account.proofs.AccountingLaws.{HasEachKeyOnce-empty}
-use Rattle.byte_account.proofs.SideLaws.{AllOnSides-empty, AllOnSides-touched, AllOnSides-without, AllOnSides-placed, AllOnSides-evicted}
+use Rattle.byte_account.proofs.SideLaws.{AllOnSides-empty, AllOnSides-brought_to_front, AllOnSides-without, AllOnSides-placed, AllOnSides-evicted}
 use Rattle.byte_account.proofs.FilledLaws.{sticky_total-map, found-map, touched-map, without-map, placed-map, evicted-map, room-map, count-map, total-map, get-map_values}
 use Rattle.byte_account.proofs.StickyMaps.{same_map}
 use Rattle.byte_account.proofs.MovedLaws.{evicted-none}
@@ -59,8 +59,8 @@ placed_from places good once = record {
   once = once;
 }
 
-pub ArePlaced-touched : (key : List ℕ) (places : Places Item) → ArePlaced places → ArePlaced (touched key places)
-ArePlaced-touched key places are = placed_from (touched key places) (AllOnSides-touched Belongs key places (belong places are)) (HasEachKeyOnce-touched key places are.once)
+pub ArePlaced-brought_to_front : (key : List ℕ) (places : Places Item) → ArePlaced places → ArePlaced (brought_to_front key places)
+ArePlaced-brought_to_front key places are = placed_from (brought_to_front key places) (AllOnSides-brought_to_front Belongs key places (belong places are)) (HasEachKeyOnce-brought_to_front key places are.once)
 
 pub ArePlaced-without : (key : List ℕ) (places : Places Item) → ArePlaced places → ArePlaced (without key places)
 ArePlaced-without key places are = placed_from (without key places) (AllOnSides-without Belongs key places (belong places are)) (HasEachKeyOnce-without key places are.once)
@@ -84,9 +84,9 @@ map-empty {X} {Y} f limit share =
     let none = same_map (map_values f (finite.empty {X = X} {R = slice_cmp nat_cmp})) finite.empty (λ q. get-map_values f finite.empty q ∙ ap (option_map f) (finite.get-empty (slice_cmp nat_cmp) q) ∙ sym (finite.get-empty (slice_cmp nat_cmp) q)) in
     λ i. record { shelf = []; sticky = none i; limit = limit; share = share }
 
-pub HoldsItems-touched : (key : List ℕ) (old new : Places (Option Stored)) → Holds old → new ≡ touched key old → HoldsItems new (touched key (items_in old))
-HoldsItems-touched key old new holds e =
-    filled_with new (touched key (items_of old)) (touched key (items_in old)) (e ∙ ap (touched key) holds.filled ∙ touched-map put_in key (items_of old)) (sym (touched-map item_of key (items_of old))) (ArePlaced-touched key (items_in old) holds.placed)
+pub HoldsItems-brought_to_front : (key : List ℕ) (old new : Places (Option Stored)) → Holds old → new ≡ brought_to_front key old → HoldsItems new (brought_to_front key (items_in old))
+HoldsItems-brought_to_front key old new holds e =
+    filled_with new (brought_to_front key (items_of old)) (brought_to_front key (items_in old)) (e ∙ ap (brought_to_front key) holds.filled ∙ touched-map put_in key (items_of old)) (sym (touched-map item_of key (items_of old))) (ArePlaced-brought_to_front key (items_in old) holds.placed)
 
 pub HoldsItems-without : (key : List ℕ) (old new : Places (Option Stored)) → Holds old → new ≡ without key old → HoldsItems new (without key (items_in old))
 HoldsItems-without key old new holds e =

@@ -6,11 +6,11 @@ use Rattle.arc_core.specs.declared.replies.ValueRow.{ValueRow}
 use Rattle.arc_core.specs.declared.replies.Reply.TheVariants as reply
 use Rattle.arc_core.specs.PlainRequest as act
 use Rattle.arc_core.specs.Item.{Item, expiry_of, has_expired}
-use Rattle.arc_core.specs.Places.{Places, found, touched, without}
+use Rattle.arc_core.specs.Places.{Places, found, brought_to_front, without}
 use Rattle.arc_core.specs.CacheState.{CacheState, ArePlaced}
 use Rattle.arc_core.specs.Step.{unexpired, without_expired, used, used_at, row_of_item, rows_of}
 use Rattle.byte_account.proofs.ShelfLists.{own_key, same_key}
-use Rattle.byte_account.proofs.FoundLaws.{found-touched, found-without_apart, touched-absent}
+use Rattle.byte_account.proofs.FoundLaws.{found-brought_to_front, found-without_apart, touched-absent}
 use Rattle.cache_engine.specs.Starting.{live_of}
 use Rattle.cache_engine.specs.Retrieving.{live_rows, is_late, some_late, is_among, AreLive}
 use Rattle.cache_engine.specs.Acting.{Acts}
@@ -23,9 +23,9 @@ use Rattle.cache_engine.proofs.Finishing.{found_live}
 -- USING KEYS
 
 used_by : (latest : ℕ) (key : List ℕ) (places : Places Item) (o : Option Item) (late : Bool) → found key places ≡ o → ((item : Item) → o ≡ Some item → has_expired latest (expiry_of item) ≡ late) → o ≡ live_of latest o
-    → used_at latest key o places ≡ touched key places
+    → used_at latest key o places ≡ brought_to_front key places
 used_by latest key places None late h time lives = sym (touched-absent key places h)
-used_by latest key places (Some item) false h time lives = ap (λ b. cond b places (touched key places)) (time item refl)
+used_by latest key places (Some item) false h time lives = ap (λ b. cond b places (brought_to_front key places)) (time item refl)
 used_by latest key places (Some item) true h time lives = absurd (let k : ◌≡◌ {A = Option Item} (Some item) None = lives ∙ ap (λ b. cond b None (Some item)) (time item refl) in cc)
 
 is_late_at : (latest : ℕ) (o : Option Item) (item : Item) → o ≡ Some item → has_expired latest (expiry_of item) ≡ is_late latest o
@@ -35,7 +35,7 @@ pub record UsesOn (latest : ℕ) (rest left : List (List ℕ)) (old new : Places
   pub so_far : used latest rest new ≡ used latest left old
   pub live : AreLive latest rest new
 
-pub uses_on : (latest : ℕ) (key : List ℕ) (left rest : List (List ℕ)) (old new : Places Item) → left ≡ key ∷ rest → new ≡ touched key old → AreLive latest left old → UsesOn latest rest left old new
+pub uses_on : (latest : ℕ) (key : List ℕ) (left rest : List (List ℕ)) (old new : Places Item) → left ≡ key ∷ rest → new ≡ brought_to_front key old → AreLive latest left old → UsesOn latest rest left old new
 uses_on latest key left rest old new next e live =
     let at : AreLive latest (key ∷ rest) old = subst (λ l. AreLive latest l old) next live in
     let own : found key old ≡ live_of latest (found key old) = at key (ap (λ b. b || is_among key rest) (own_key key)) in
@@ -44,7 +44,7 @@ uses_on latest key left rest old new next e live =
       so_far = ap (used latest rest) (e ∙ sym same) ∙ sym (ap (λ l. used latest l old) next);
       live = λ q among.
           let was = at q (or_right (bytes_eq q key) (is_among q rest) among) in
-          ap (found q) e ∙ found-touched key q old ∙ was ∙ ap (live_of latest) (sym (found-touched key q old) ∙ ap (found q) (sym e));
+          ap (found q) e ∙ found-brought_to_front key q old ∙ was ∙ ap (live_of latest) (sym (found-brought_to_front key q old) ∙ ap (found q) (sym e));
     }
 
 -- WHAT HAS NOT EXPIRED

@@ -12,21 +12,21 @@ use Rattle.arc_core.specs.declared.replies.Reply.{Reply}
 use Rattle.arc_core.specs.PlainRequest.{PlainAct, PlainRequest}
 use Rattle.arc_core.specs.PlainRequest as act
 use Rattle.arc_core.specs.Words.{words, number_below, keys_counted}
-use Rattle.arc_core.specs.KeyValueGrammar as grammar
-use Rattle.arc_core.specs.KeyValueGrammar.{Command}
+use Rattle.arc_core.specs.declared.commands.Command.{Command}
+use Rattle.arc_core.specs.declared.commands.Command.TheVariants as command
 use Rattle.arc_core.specs.Grammar.{act_of, IsBlockFor, CanBeSpelled}
 use Rattle.arc_core.specs.Item.{Item, key_value, IsItem, size_of, expiry_of, expiry_at, is_sticky, has_expired}
-use Rattle.arc_core.specs.Places.{Places, empty_places, found, touched, placed, without, total_of, sticky_total_of}
+use Rattle.arc_core.specs.Places.{Places, empty_places, found, brought_to_front, placed, without, total_of, sticky_total_of}
 use Rattle.arc_core.specs.Room.{room, evicted}
 use Rattle.arc_core.specs.CacheState.{CacheState, IsState, ArePlaced}
-use Rattle.arc_core.specs.Step.{Plan, tell, put, take_away, take_all, extra_of, sticky_size, room_for, put_behind, carried_out, ended, named_keys, started, step, unexpired, without_expired, used, used_at, put_joined, counted, plan_of_store, plan_of_next, plan_of_count, plan_of_delete, plan_of_touch, plan_of}
+use Rattle.arc_core.specs.Step.{Plan, answer_only, put, take_away, take_all, extra_of, sticky_size, room_for, put_behind, carried_out, ended, named_keys, started, step, unexpired, without_expired, used, used_at, put_joined, counted, plan_of_store, plan_of_next, plan_of_count, plan_of_delete, plan_of_touch, plan_of}
 use Rattle.byte_account.specs.Accounting.{IsAccounted, IsWithinShare}
 use Rattle.byte_account.specs.Putting as shelf
-use Rattle.byte_account.proofs.PlacesLaws.{total-touched, total-without}
+use Rattle.byte_account.proofs.PlacesLaws.{total-brought_to_front, total-without}
 use Rattle.byte_account.proofs.AccountingLaws.{IsAccounted-empty}
 use Rattle.byte_account.proofs.ShareLaws.{IsWithinShare-empty, sticky_total-without}
 use Rattle.byte_account.proofs.PutLaws.{put_totals}
-use Rattle.cache_engine.proofs.ItemPlaces.{sticky_held, ArePlaced-touched, ArePlaced-without, ArePlaced-evicted, ArePlaced-placed, ArePlaced-empty, stays_item}
+use Rattle.cache_engine.proofs.ItemPlaces.{sticky_held, ArePlaced-brought_to_front, ArePlaced-without, ArePlaced-evicted, ArePlaced-placed, ArePlaced-empty, stays_item}
 use Rattle.cache_engine.proofs.Texts.{decimal_long}
 
 -- THE PLACES
@@ -40,8 +40,8 @@ record Keeps (places : Places Item) : Type 0 where
 Keeps-without : (key : List ℕ) (places : Places Item) → Keeps places → Keeps (without key places)
 Keeps-without key places keeps = record { placed = ArePlaced-without key places keeps.placed; within = omega (arith, total-without size_of key places keeps.placed.once, keeps.within); share = omega (arith, sticky_total-without size_of key places, keeps.share) }
 
-Keeps-touched : (key : List ℕ) (places : Places Item) → Keeps places → Keeps (touched key places)
-Keeps-touched key places keeps = record { placed = ArePlaced-touched key places keeps.placed; within = omega (arith, total-touched size_of key places keeps.placed.once, keeps.within); share = keeps.share }
+Keeps-brought_to_front : (key : List ℕ) (places : Places Item) → Keeps places → Keeps (brought_to_front key places)
+Keeps-brought_to_front key places keeps = record { placed = ArePlaced-brought_to_front key places keeps.placed; within = omega (arith, total-brought_to_front size_of key places keeps.placed.once, keeps.within); share = keeps.share }
 
 Keeps-empty : (limit share : ℕ) → Keeps (empty_places limit share)
 Keeps-empty limit share = record { placed = ArePlaced-empty limit share; within = omega (arith, (IsAccounted-empty size_of limit share).sum); share = omega (arith, (IsWithinShare-empty {X = Item} size_of limit share).sum) }
@@ -60,7 +60,7 @@ Keeps-unexpired latest (key ∷ keys) places keeps = Keeps-unexpired latest keys
 
 Keeps-used_at : (latest : ℕ) (key : List ℕ) (o : Option Item) (places : Places Item) → Keeps places → Keeps (used_at latest key o places)
 Keeps-used_at latest key None places keeps = keeps
-Keeps-used_at latest key (Some item) places keeps = either (has_expired latest (expiry_of item)) _ _ keeps (Keeps-touched key places keeps)
+Keeps-used_at latest key (Some item) places keeps = either (has_expired latest (expiry_of item)) _ _ keeps (Keeps-brought_to_front key places keeps)
 
 Keeps-used : (latest : ℕ) (keys : List (List ℕ)) (places : Places Item) → Keeps places → Keeps (used latest keys places)
 Keeps-used latest [] places keeps = keeps
@@ -85,7 +85,7 @@ module _ (state : CacheState) (key : List ℕ) (item : Item) where
 
 -- what is put is an item
 PutsItem : Plan → Type 0
-PutsItem (tell reply) = Unit {0}
+PutsItem (answer_only reply) = Unit {0}
 PutsItem (put key item counter reply) = IsItem item
 PutsItem (take_away key reply) = Unit {0}
 PutsItem (take_all reply) = Unit {0}
@@ -171,7 +171,7 @@ put_keeps state key item counter reply keys (Some gone) h ok keeps = record { se
 
 plan_keeps : (state : CacheState) (plan : Plan) (keys : List (List ℕ)) → PutsItem plan → Keeps state.places → KeepsAt state.latest (ended state keys (carried_out state plan)).0
 unfolding PutsItem
-plan_keeps state (tell reply) keys ok keeps = record { second = refl; keeps = Keeps-used state.latest keys _ keeps }
+plan_keeps state (answer_only reply) keys ok keeps = record { second = refl; keeps = Keeps-used state.latest keys _ keeps }
 plan_keeps state (put key item counter reply) keys ok keeps = put_keeps state key item counter reply keys (room_for state key item) refl ok keeps
 plan_keeps state (take_away key reply) keys ok keeps = record { second = refl; keeps = Keeps-used state.latest keys _ (Keeps-without key state.places keeps) }
 plan_keeps state (take_all reply) keys ok keeps = record { second = refl; keeps = Keeps-used state.latest keys _ (Keeps-empty state.places.limit state.places.share) }
@@ -200,22 +200,22 @@ unfolding IsShort
 keys_short None a h = absurd (cc)
 keys_short (Some keys) a h = subst IsShort (some_act (act.get keys false) a h) tt
 
-act_short : (command : Command) (block : List ℕ) (a : PlainAct) → IsBlockFor command block → act_of command block ≡ Some a → IsShort a
+act_short : (asked : Command) (block : List ℕ) (a : PlainAct) → IsBlockFor asked block → act_of asked block ≡ Some a → IsShort a
 unfolding IsShort
-act_short (grammar.store verb key flags exptime len) block a meets h = subst IsShort (some_act (act.store verb key flags exptime block) a h) (omega (arith, meets.0, meets.1))
-act_short (grammar.get keys unique) block a meets h = subst IsShort (some_act (act.get keys unique) a h) tt
-act_short (grammar.get_block len number) block a meets h = keys_short (keys_counted number (words block)) a h
-act_short (grammar.count up key delta initial) block a meets h = subst IsShort (some_act (act.count up key delta initial) a h) tt
-act_short (grammar.delete key) block a meets h = subst IsShort (some_act (act.delete key) a h) tt
-act_short (grammar.touch key exptime) block a meets h = subst IsShort (some_act (act.touch key exptime) a h) tt
-act_short grammar.flush_all block a meets h = subst IsShort (some_act act.flush_all a h) tt
-act_short grammar.version block a meets h = subst IsShort (some_act act.version a h) tt
-act_short grammar.quit block a meets h = absurd (cc)
+act_short (command.Store verb key flags exptime len) block a meets h = subst IsShort (some_act (act.store verb key flags exptime block) a h) (omega (arith, meets.0, meets.1))
+act_short (command.Get keys unique) block a meets h = subst IsShort (some_act (act.get keys unique) a h) tt
+act_short (command.GetBlock len number) block a meets h = keys_short (keys_counted number (words block)) a h
+act_short (command.Count up key delta initial) block a meets h = subst IsShort (some_act (act.count up key delta initial) a h) tt
+act_short (command.Delete key) block a meets h = subst IsShort (some_act (act.delete key) a h) tt
+act_short (command.Touch key exptime) block a meets h = subst IsShort (some_act (act.touch key exptime) a h) tt
+act_short command.FlushAll block a meets h = subst IsShort (some_act act.flush_all a h) tt
+act_short command.Version block a meets h = subst IsShort (some_act act.version a h) tt
+act_short command.Quit block a meets h = absurd (cc)
 
-request_short : (command : Command) (block : List ℕ) (o : Option PlainAct) (make : PlainAct → PlainRequest) (request : PlainRequest) → ((a : PlainAct) → (make a).act ≡ a) → IsBlockFor command block → act_of command block ≡ o → option_map make o ≡ Some request → IsShort request.act
-request_short command block None make request same meets e h = absurd (cc)
-request_short command block (Some a) make request same meets e h =
-    subst IsShort (sym (same a) ∙ ap (λ o. (unwrap_or {T = PlainRequest} o request).act) h) (act_short command block a meets e)
+request_short : (asked : Command) (block : List ℕ) (o : Option PlainAct) (make : PlainAct → PlainRequest) (request : PlainRequest) → ((a : PlainAct) → (make a).act ≡ a) → IsBlockFor asked block → act_of asked block ≡ o → option_map make o ≡ Some request → IsShort request.act
+request_short asked block None make request same meets e h = absurd (cc)
+request_short asked block (Some a) make request same meets e h =
+    subst IsShort (sym (same a) ∙ ap (λ o. (unwrap_or {T = PlainRequest} o request).act) h) (act_short asked block a meets e)
 
 pub step_keeps : (old : CacheState) (now : ℕ) (request : PlainRequest) → IsState old → now < 2 ^ 32 → CanBeSpelled request → IsState (step old now request).0
 step_keeps old now request rules time spelled =

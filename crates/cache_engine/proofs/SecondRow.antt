@@ -10,7 +10,7 @@ use Rattle.arc_core.specs.declared.replies.ValueRow.{ValueRow}
 use Rattle.arc_core.specs.declared.items.Expiry.TheVariants as expiry
 use Rattle.arc_core.specs.declared.outside.Need.TheVariants as need
 use Rattle.arc_core.specs.Words.{words, number_below, key_word, exptime_word, keys_up_to}
-use Rattle.arc_core.specs.KeyValueGrammar as grammar
+use Rattle.arc_core.specs.declared.commands.Command.TheVariants as command
 use Rattle.arc_core.specs.KeyValueGrammar.{store_row, get_row, noreply_word}
 use Rattle.arc_core.specs.Grammar.{head_of, line_needs, command_of}
 use Rattle.arc_core.specs.Item.{Item, key_value}
@@ -44,7 +44,7 @@ abbrev pub get_a : PlainRequest
 get_a = record { act = get (a ∷ []) false; answer = answer.Plain }
 
 -- the lines spell the requests, and the first asks for its block
-pub set_is_spelled : head_of (words (codes "set a 5 0 3")) ≡ Some (record { command = grammar.store verb.Set a 5 (pos 0) 3; answer = answer.Plain })
+pub set_is_spelled : head_of (words (codes "set a 5 0 3")) ≡ Some (record { command = command.Store verb.Set a 5 (pos 0) 3; answer = answer.Plain })
 unfolding command_of store_row exptime_word number_below key_word noreply_word
 set_is_spelled = refl
 
@@ -52,7 +52,7 @@ pub set_asks_for_a_block : line_needs (codes "set a 5 0 3") ≡ need.Block 3 104
 unfolding command_of store_row exptime_word number_below key_word noreply_word
 set_asks_for_a_block = refl
 
-pub get_is_spelled : head_of (words (codes "get a")) ≡ Some (record { command = grammar.get (a ∷ []) false; answer = answer.Plain })
+pub get_is_spelled : head_of (words (codes "get a")) ≡ Some (record { command = command.Get (a ∷ []) false; answer = answer.Plain })
 unfolding command_of get_row keys_up_to
 get_is_spelled = refl
 

@@ -7,7 +7,7 @@ use Rattle.arc_core.specs.declared.replies.Word.TheVariants as word
 use Rattle.arc_core.specs.PlainRequest.{PlainAct}
 use Rattle.arc_core.specs.CacheState.{CacheState}
 use Rattle.arc_core.specs.History.{MayWantMemory}
-use Rattle.arc_core.specs.Step.{Plan, tell, named_keys, started, plan_of, carried_out, ended}
+use Rattle.arc_core.specs.Step.{Plan, answer_only, named_keys, started, plan_of, carried_out, ended}
 
 -- The state at the start of a step that names this key alone.
 abbrev pub start_at : CacheState → ℕ → List ℕ → CacheState
@@ -15,7 +15,7 @@ start_at old now key = started old now (key ∷ [])
 
 -- The word is answered by the machine's rules, and the item under the key left as it is.
 abbrev pub Answers : CacheState → ℕ → List ℕ → Word → Reply → CacheState → Type 0
-Answers old now key word answer new = ended (start_at old now key) (key ∷ []) (carried_out (start_at old now key) (tell (reply.Word word))) ≡ (new, answer)
+Answers old now key word answer new = ended (start_at old now key) (key ∷ []) (carried_out (start_at old now key) (answer_only (reply.Word word))) ≡ (new, answer)
 
 -- The plan for this key is carried out by the machine's rules, or memory was refused and nothing has changed.
 abbrev pub Finishes : CacheState → ℕ → List ℕ → Plan → Reply → CacheState → Type 0

@@ -6,7 +6,7 @@ use Rattle.arc_core.specs.declared.replies.Word.TheVariants as word
 use Rattle.arc_core.specs.Item.{Item}
 use Rattle.arc_core.specs.Places.{Places}
 use Rattle.arc_core.specs.CacheState.{CacheState}
-use Rattle.arc_core.specs.Step.{Plan, tell, put}
+use Rattle.arc_core.specs.Step.{Plan, answer_only, put}
 use Rattle.arc_core.specs.ReplyText.{reply_text}
 use Rattle.kv_items.specs.PlainItem.{plain_item}
 use Rattle.kv_items.specs.declared.item.KvItem.{KvItem}
@@ -25,7 +25,7 @@ held_item = option_map (λ item. plain_item item.now)
 
 -- What is planned is this plan of the machine, or memory was refused.
 abbrev pub Plans : List ℕ → Plan → Planned → Type 0
-Plans key plan (planned.Answer w) = plan ≡ tell (reply.Word w)
+Plans key plan (planned.Answer w) = plan ≡ answer_only (reply.Word w)
 Plans key plan (planned.Put item answer) = plan ≡ put key (plain_item item) item.unique answer
 Plans key plan planned.NoMemory = Unit {0}
 

@@ -2,7 +2,7 @@
 ghost use Rattle.std.specs.Prelude.{◌≡◌, ◌≤◌, IfOk};
 ghost use Rattle.std.specs.Option.{option_map};
 ghost use Rattle.arc_core.specs.Item.{size_of, with_expiry};
-ghost use Rattle.arc_core.specs.Places.{empty_places, found, count_of, total_of, sticky_total_of, touched, without};
+ghost use Rattle.arc_core.specs.Places.{empty_places, found, count_of, total_of, sticky_total_of, brought_to_front, without};
 ghost use Rattle.arc_core.specs.CacheState.{ArePlaced};
 ghost use Rattle.cache_engine.specs.Stored.{item_of};
 ghost use Rattle.cache_engine.specs.Changes.{Puts, IsUnder, SetsExpiry};
@@ -91,7 +91,7 @@ impl Items {
 
     /// Marks the key as used: where it has a place on the shelf, that moves to the front.
     pub fn mark_used(&mut self, key: &[u8])
-        ensures { self.new ≡ touched key.now self.old }
+        ensures { self.new ≡ brought_to_front key.now self.old }
     {
         self.shelf.touch(key);
     }

@@ -7,7 +7,7 @@ ghost use Rattle.arc_core.specs.Item.{Item};
 ghost use Rattle.arc_core.specs.PlainRequest.{PlainRequest};
 ghost use Rattle.arc_core.specs.Grammar.{CanBeSpelled};
 ghost use Rattle.arc_core.specs.CacheState.{CacheState, IsState};
-ghost use Rattle.arc_core.specs.Step.{tell, put, extra_of, carried_out, named_keys, started, step};
+ghost use Rattle.arc_core.specs.Step.{answer_only, put, extra_of, carried_out, named_keys, started, step};
 ghost use Rattle.byte_account.specs.declared.room.Room.TheVariants.{Nothing};
 ghost use Rattle.cache_engine.specs.Evicting.{MakesRoom, EvictsLeast, EvictsNothing};
 
@@ -26,7 +26,7 @@ pub fn eviction_is_least()
     ensures no_more { (state : CacheState) (key : List ℕ) (item : Item) (counter : ℕ) (reply : Reply)
         → IsState state → extra_of state key item ≤ℤ pos 0 → EvictsNothing state key item counter reply }
     ensures answered { (state new : CacheState) (reply answer : Reply)
-        → carried_out state (tell reply) ≡ Some (new, answer) → new.places ≡ state.places }
+        → carried_out state (answer_only reply) ≡ Some (new, answer) → new.places ≡ state.places }
     ensures out_of_memory { (state : CacheState) (now : ℕ) (request : PlainRequest)
         → (step state now request).1 ≡ reply.Word word.OutOfMemory → (step state now request).0 ≡ started state now (named_keys request.act) }
 {}

@@ -1,4 +1,5 @@
-pub mod Progress
 pub mod Buffers
-pub mod Units
 pub mod Cutting
+pub mod Fronts
+pub mod Progress
+pub mod Units

@@ -57,7 +57,7 @@ pub(crate) fn take_line<G: Heads>(
 }
 
 // The place of the first LF.
-fn place_of_lf(piece: &[u8]) -> Option<usize>
+pub(crate) fn place_of_lf(piece: &[u8]) -> Option<usize>
     ensures { MatchOption result (HasNoLf piece.now)
         (λ place. (place < length piece.now) × HasNoLf (take place piece.now)
         × (take (place + 1) piece.now ≡ take place piece.now ++ 10 ∷ [])) }
@@ -194,7 +194,7 @@ fn take_chunk(kept: &mut Vec<u8>, len: usize, piece: &[u8]) -> (usize, Chunk)
 }
 
 // Whether CR LF stands behind the block's bytes.
-fn ends_in_cr_lf(chunk: &[u8], len: usize) -> bool
+pub(crate) fn ends_in_cr_lf(chunk: &[u8], len: usize) -> bool
     requires { len ≤ length chunk.now }
     ensures { MatchBool result (drop len chunk.now ≡ 13 ∷ 10 ∷ []) (drop len chunk.now ≢ 13 ∷ 10 ∷ []) }
 {

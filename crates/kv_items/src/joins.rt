@@ -5,11 +5,8 @@ ghost use Rattle.kv_items.specs.PlainItem.{plain_item};
 ghost use Rattle.kv_items.specs.Joining.{Joins};
 
 use crate::KvItem;
-use arc_core::{Expiry, NoMemory, Value};
+use arc_core::{Expiry, MAX_VALUE_BYTES, NoMemory, Value};
 use std::alloc::Global;
-
-/// The most bytes of a value.
-const MAX_VALUE_BYTES: usize = 1_048_576;
 
 /// Why two pieces and a value were not joined.
 #[derive(Clone, Copy, Debug, PartialEq, Eq)]
@@ -52,7 +49,7 @@ impl KvItem {
         ensures { Joins self.now front.now back.now unique result }
     {
         let len = front.len() + self.value.bytes().len() + back.len();
-        if len > MAX_VALUE_BYTES {
+        if len > MAX_VALUE_BYTES as usize {
             return Err(JoinFault::TooLong(len));
         }
         let Ok(value) = self.value.joined(front, back) else {

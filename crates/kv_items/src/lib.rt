@@ -1,4 +1,7 @@
 //! Key-value items: a value with its client flags, expiry and cas unique, and what is made of it.
+//!
+//! `item` is the item, `joins` makes one of another's value and of bytes around it, `counts` counts values that spell
+//! numbers.
 #![tactic(auto)]
 
 mod counts;

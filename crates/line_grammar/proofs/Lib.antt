@@ -1,4 +1,3 @@
 pub mod KeyValueRows
 pub mod LineLemmas
 pub mod RowLemmas
-pub mod Needs

@@ -2,16 +2,22 @@
 //!
 //! The table of rows is a definition of `arc_core` (`KeyValueGrammar`, `Grammar`), and what is read here is exactly
 //! what it spells. Lines are read where they lie, and nothing here takes memory.
+//!
+//! `lines` reads a whole line, and has the laws on lines; `names` knows the names of commands, `kv` how the words behind
+//! them go on, `parts` the words that are no key and no number, `faults` what is wrong with a line. What a line spells,
+//! a `Head`, is a type of `arc_core`.
 #![tactic(auto)]
 
-mod heads;
+mod faults;
 mod kv;
 mod lines;
+mod names;
 mod parts;
 #[cfg(test)]
 mod tests;
 
-pub use heads::{BlockFault, Command, Head, LineFault};
+pub use arc_core::{BlockFault, Command, CommandName, Head};
+pub use faults::LineFault;
 pub use lines::{
     KvHeads, bad_block_is_no_request, head_is_no_fault, line_spells_one_head, quit_is_no_request,
     read_line,

@@ -1,3 +1,1 @@
-pub mod InsertPlan
 pub mod ListContents
-pub mod Span

@@ -1,12 +1,12 @@
 //! The elements of a list.
 ghost use Rattle.std.specs.Prelude.{◌≡◌, ◌+◌, ◌-◌, ◌≤◌, ◌<◌, ℕ, [], length, insert, slice_get, OnOk, OnErr, IfSome};
 ghost use Rattle.std.specs.List.{remove_range};
-ghost use Rattle.list_coll.specs.InsertPlan.{IsListAction, KeepsLimit, insert_plan};
-ghost use Rattle.list_coll.specs.Span.{span};
+ghost use Rattle.arc_core.specs.InsertPlan.{IsListAction, KeepsLimit, insert_plan};
+ghost use Rattle.arc_core.specs.Span.{span};
 
-use crate::plan::{ListPlan, plan_of};
-use crate::span::{Part, part_of};
-use arc_core::{Action, IndexRange, NoMemory, Value};
+use crate::plan::plan_of;
+use crate::span::part_of;
+use arc_core::{Action, IndexRange, ListPlan, NoMemory, Part, Value};
 use std::alloc::Global;
 use std::collections::VecDeque;
 use std::marker::Model;

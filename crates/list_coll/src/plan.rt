@@ -1,23 +1,9 @@
 //! Where an insert at an index of a list puts its element, and what it trims.
 ghost use Rattle.std.specs.Prelude.{◌≡◌, ◌≤◌, IfSome};
 ghost use Rattle.arc_core.specs.declared.collections.Action.{Action};
-ghost use Rattle.list_coll.specs.InsertPlan.{IsListAction, KeepsLimit, insert_place, insert_plan, trimmed_side, full_plan};
+ghost use Rattle.arc_core.specs.InsertPlan.{IsListAction, KeepsLimit, insert_place, insert_plan, trimmed_side, full_plan};
 
-use arc_core::{Action, Side};
-
-/// What an insert into a list does. Places are counted from 0 at the head, in the list before the insert and the trim.
-#[derive(Clone, Copy, Debug, PartialEq, Eq)]
-pub enum ListPlan {
-    /// The element goes to this place.
-    Store(u32),
-    /// The list is full. The element goes to this place, and the old element at this end is trimmed.
-    StoreAndTrim(u32, Side),
-    /// The index, and the list's count: the index names no place for a new element, or the new element would be the
-    /// trimmed one.
-    OutOfRange(i32, u32),
-    /// The list is full, and its action is `Error`.
-    Overflowed,
-}
+use arc_core::{Action, ListPlan, Side};
 
 // What an insert at an index does in a list of `count` elements.
 pub(crate) fn plan_of(index: i32, count: u32, maxcount: u32, action: Action) -> ListPlan

@@ -1,17 +1,8 @@
 //! Which places of a list a range of indices names.
 ghost use Rattle.std.specs.Prelude.{◌≡◌, ◌<◌, ◌≤◌, IfSome};
-ghost use Rattle.list_coll.specs.Span.{place_of, clipped, span};
+ghost use Rattle.arc_core.specs.Span.{place_of, clipped, span};
 
-use arc_core::IndexRange;
-
-/// The places of a list from `low` to `high`, both counted from 0 at the head and both within the part.
-/// `down` says that they are read from `high` to `low`.
-#[derive(Clone, Copy, Debug, PartialEq, Eq)]
-pub struct Part {
-    pub low: u32,
-    pub high: u32,
-    pub down: bool,
-}
+use arc_core::{IndexRange, Part};
 
 // The part of a list of `count` elements that a range of indices names.
 pub(crate) fn part_of(range: IndexRange, count: u32) -> Option<Part>

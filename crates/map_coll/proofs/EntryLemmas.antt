@@ -8,7 +8,7 @@ use Rattle.std.specs.Map.{keys_of, values_of, lookup}
 use Rattle.std.proofs.lemmas.List.Elements.{All-append, All-take, All-drop, All-cons, All-head, All-tail, All-nil, All-map}
 use Rattle.indexmap.specs.IndexMap.{IndexMap, insert_entry, set_value_at}
 use Rattle.map_coll.specs.MapContents.{with_value_at}
-use Rattle.map_coll.proofs.MappedLists.{push_seen}
+use Rattle.arc_core.proofs.MappedLists.{push_seen}
 use Rattle.indexmap.proofs.CallerLemmas.{insert_entry-new}
 
 module _ {K V F W : Type 0} (field : K → F) (value : V → W) where

@@ -1,3 +1,2 @@
-pub mod MappedLists
 pub mod MarkedEntries
 pub mod EntryLemmas

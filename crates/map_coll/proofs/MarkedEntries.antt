@@ -9,7 +9,7 @@ use Rattle.std.specs.Cmp.Lexicographic.{same_text}
 use Rattle.indexmap.specs.IndexMap.{set_value_at}
 use Rattle.indexmap.proofs.MapLemmas.{Found-position}
 use Rattle.map_coll.specs.MapContents.{is_named}
-use Rattle.map_coll.proofs.MappedLists.{list_any-position_None}
+use Rattle.arc_core.proofs.MappedLists.{list_any-position_None}
 
 module _ {K V : Type 0} (h : K → List ℕ) (marked : V → Bool) where
   -- the entries that are marked are those of the named fields

@@ -1,9 +1,9 @@
 -- The pieces of a text, one after another.
-use Rattle.std.proofs.Common.{◌≡◌, ◌+◌, ◌<◌, ℕ, suc, List, [], ◌∷◌, ◌++◌, length, take, drop, get_or, refl, sym, ap, ◌∙◌, append_assoc, arith}
+use Rattle.std.proofs.Common.{◌≡◌, ◌+◌, ◌<◌, ℕ, suc, List, [], ◌∷◌, ◌++◌, length, take, drop, get_or, refl, sym, ap, ◌∙◌, append_assoc, arith, length-append}
 use Rattle.std.specs.Prelude.{codes, decimal}
 use Rattle.std.specs.Option.{option_map_or}
 use Rattle.std.specs.List.{flat_map}
-use Rattle.std.proofs.lemmas.List.{take_more, append-nil}
+use Rattle.std.proofs.lemmas.List.{take_more, append-nil, take-append-drop}
 use Rattle.std.proofs.lemmas.Grind.{flat_map-append}
 use Rattle.std.proofs.Math.Seq.{drop-cons}
 use Rattle.arc_core.specs.declared.replies.ValueRow.{ValueRow}
@@ -45,3 +45,12 @@ module _ {X : Type 0} (f : X → List ℕ) where
       ∙ ap (λ t. flat_map f (take i xs) ++ t) (sym (append-nil (f (get_or xs i x))))
       ∙ sym (flat_map-append f (take i xs) (get_or xs i x ∷ []))
       ∙ ap (flat_map f) (sym (take_more xs i x in'))
+
+  -- where a text has no room behind those before it, all of them together have none
+  pub no_room_for_all : (xs : List X) (i : ℕ) (x : X) (start before : List ℕ) → i < length xs → x ≡ get_or xs i x → before ≡ start ++ flat_map f (take i xs)
+      → 16384 < length before + length (f x) + 80 → 16384 < length start + length (flat_map f xs) + 80
+  no_room_for_all xs i x start before in' is stands none =
+      let split = ap length (ap (flat_map f) (sym (take-append-drop (i + 1) xs)) ∙ flat_map-append f (take (i + 1) xs) (drop (i + 1) xs)) ∙ length-append (flat_map f (take (i + 1) xs)) (flat_map f (drop (i + 1) xs)) in
+      let upto = ap length (sym (texts_more xs i x in' is)) ∙ length-append (flat_map f (take i xs)) (f x) in
+      let held = ap length stands ∙ length-append start (flat_map f (take i xs)) in
+      omega (arith, split, upto, held, none)

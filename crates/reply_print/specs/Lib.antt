@@ -1,3 +1,4 @@
+pub mod Waiting
 pub mod Parts
 pub mod Reaching
 pub mod Writing

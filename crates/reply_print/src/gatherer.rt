@@ -1,6 +1,7 @@
 //! Puts a text out piece by piece: small pieces are gathered, so that a reply goes out in few pushes.
 ghost use Rattle.std.specs.Prelude.{◌≡◌, ℕ, List, [], ◌++◌, OnOk};
-ghost use Rattle.reply_print.specs.Reaching.{Told, told, Holds, Keeps, PutsOut};
+ghost use Rattle.arc_core.specs.Outside.{Linked, linked};
+ghost use Rattle.reply_print.specs.Reaching.{Holds, Keeps, PutsOut};
 
 use crate::buffer::Buffer;
 use crate::sending::{Unsent, send};
@@ -37,8 +38,10 @@ impl Gatherer {
     /// Puts a piece out, behind all that was put out: it waits where it has room, and else it is sent.
     pub fn put<L: Link>(&mut self, piece: &[u8], link: &mut L) -> Result<(), Unsent>
         ensures { PutsOut
-            (told (L.left link.old) (L.read_faults link.old) (L.sent link.old) (L.write_faults link.old) (L.refusals link.old))
-            (told (L.left link.new) (L.read_faults link.new) (L.sent link.new) (L.write_faults link.new) (L.refusals link.new))
+            (linked (L.left link.old) (L.read_faults link.old) (L.sent link.old) (L.write_faults link.old)
+            (L.refusals link.old) (L.agains link.old))
+            (linked (L.left link.new) (L.read_faults link.new) (L.sent link.new) (L.write_faults link.new)
+            (L.refusals link.new) (L.agains link.new))
             self.old self.new piece.now result }
     {
         let len = piece.len() as u64;
@@ -53,10 +56,12 @@ impl Gatherer {
 
     /// Sends all that waits.
     pub fn flush<L: Link>(&mut self, link: &mut L) -> Result<(), Unsent>
-        ensures keeps { (start : Told) (from : ℕ) (text rest : List ℕ) → Holds start
-            (told (L.left link.old) (L.read_faults link.old) (L.sent link.old) (L.write_faults link.old) (L.refusals link.old))
+        ensures keeps { (start : Linked) (from : ℕ) (text rest : List ℕ) → Holds start
+            (linked (L.left link.old) (L.read_faults link.old) (L.sent link.old) (L.write_faults link.old)
+            (L.refusals link.old) (L.agains link.old))
             from text rest self.old → Keeps start
-            (told (L.left link.new) (L.read_faults link.new) (L.sent link.new) (L.write_faults link.new) (L.refusals link.new))
+            (linked (L.left link.new) (L.read_faults link.new) (L.sent link.new) (L.write_faults link.new)
+            (L.refusals link.new) (L.agains link.new))
             from text rest self.new result }
         ensures skip { self.new.skip ≡ self.old.skip }
         ensures empty { OnOk result (self.new.waiting ≡ []) }
@@ -68,10 +73,12 @@ impl Gatherer {
 
     // Puts a piece out of which nothing is passed over.
     fn add<L: Link>(&mut self, piece: &[u8], link: &mut L) -> Result<(), Unsent>
-        ensures keeps { (start : Told) (from : ℕ) (text rest : List ℕ) → Holds start
-            (told (L.left link.old) (L.read_faults link.old) (L.sent link.old) (L.write_faults link.old) (L.refusals link.old))
+        ensures keeps { (start : Linked) (from : ℕ) (text rest : List ℕ) → Holds start
+            (linked (L.left link.old) (L.read_faults link.old) (L.sent link.old) (L.write_faults link.old)
+            (L.refusals link.old) (L.agains link.old))
             from text (piece.now ++ rest) self.old → Keeps start
-            (told (L.left link.new) (L.read_faults link.new) (L.sent link.new) (L.write_faults link.new) (L.refusals link.new))
+            (linked (L.left link.new) (L.read_faults link.new) (L.sent link.new) (L.write_faults link.new)
+            (L.refusals link.new) (L.agains link.new))
             from text rest self.new result }
         ensures skip { self.new.skip ≡ self.old.skip }
     {

@@ -3,12 +3,15 @@
 
 mod buffer;
 mod gatherer;
+mod line_from_end;
 mod lines;
+mod outbox;
 mod sending;
 #[cfg(test)]
 mod tests;
 mod texts;
 mod wrote;
 
+pub use outbox::{Outbox, WAITING_BYTES};
 pub use texts::{reply_len, write_reply, write_word};
 pub use wrote::Wrote;

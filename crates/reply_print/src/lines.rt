@@ -4,11 +4,17 @@ ghost use Rattle.std.specs.Option.{option_map_or};
 ghost use Rattle.arc_core.specs.ReplyText.{word_line, line_end};
 ghost use Rattle.reply_print.specs.Parts.{row_tail};
 
-use crate::buffer::Buffer;
+use crate::line_from_end::LineFromEnd;
 use arc_core::{ValueRow, Word};
 
-/// The most bytes of a short part.
-const SHORT_BYTES: usize = 128;
+/// What begins the line of a found item.
+pub(crate) const ROW_START: &[u8] = b"VALUE ";
+
+/// What ends a line.
+pub(crate) const LINE_END: &[u8] = b"\r\n";
+
+/// The line behind the found items.
+pub(crate) const END: &[u8] = b"END\r\n";
 
 /// The line of a word.
 pub(crate) fn line_of(word: Word) -> &'static [u8]
@@ -23,7 +29,7 @@ pub(crate) fn line_of(word: Word) -> &'static [u8]
         Word::Deleted => b"DELETED\r\n",
         Word::Touched => b"TOUCHED\r\n",
         Word::Ok => b"OK\r\n",
-        Word::Version => b"VERSION arcus-profile-1\r\n",
+        Word::Version => b"VERSION arcus-profile-2\r\n",
         Word::NotNumeric => b"CLIENT_ERROR cannot increment or decrement non-numeric value\r\n",
         Word::TooLarge => b"CLIENT_ERROR too large value\r\n",
         Word::OutOfMemory => b"SERVER_ERROR out of memory\r\n",
@@ -36,37 +42,35 @@ pub(crate) fn line_of(word: Word) -> &'static [u8]
 }
 
 /// The line of a number.
-pub(crate) fn number_line(number: u64) -> Buffer<SHORT_BYTES>
+pub(crate) fn number_line(number: u64) -> LineFromEnd
     ensures { result ≡ decimal number ++ line_end }
 {
-    let mut digits = itoa::Buffer::new();
-    let mut line = Buffer::new();
-    line.add(digits.format(number).as_bytes());
-    line.add(b"\r\n");
+    let mut line = LineFromEnd::new();
+    line.put(LINE_END);
+    line.put_number(number);
     line
 }
 
 /// What stands behind the key in the line of a found item.
-pub(crate) fn tail_of(row: &ValueRow) -> Buffer<SHORT_BYTES>
+pub(crate) fn tail_of(row: &ValueRow) -> LineFromEnd
     ensures { result ≡ row_tail row.now }
 {
-    let mut tail = Buffer::new();
-    add_number(&mut tail, u64::from(row.flags));
-    add_number(&mut tail, row.value.bytes().len() as u64);
+    let mut tail = LineFromEnd::new();
+    tail.put(LINE_END);
     if let Some(unique) = row.unique {
-        add_number(&mut tail, unique);
+        put_blank_number(&mut tail, unique);
     }
-    tail.add(b"\r\n");
+    put_blank_number(&mut tail, row.value.bytes().len() as u64);
+    put_blank_number(&mut tail, u64::from(row.flags));
     tail
 }
 
-// Puts a blank and a number last, of 40 digits at most.
-fn add_number(line: &mut Buffer<SHORT_BYTES>, number: u64)
-    requires { length line.old + 41 ≤ 128 }
-    ensures line { line.new ≡ line.old ++ codes " " ++ decimal number }
-    ensures len { length line.new ≤ length line.old + 41 }
+// Puts a blank and a number in front.
+fn put_blank_number(line: &mut LineFromEnd, number: u64)
+    requires { length line.old + 21 ≤ 72 }
+    ensures line { line.new ≡ codes " " ++ decimal number ++ line.old }
+    ensures len { length line.new ≤ length line.old + 21 }
 {
-    let mut digits = itoa::Buffer::new();
-    line.add(b" ");
-    line.add(digits.format(number).as_bytes());
+    line.put_number(number);
+    line.put(b" ");
 }

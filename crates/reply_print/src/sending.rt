@@ -1,6 +1,7 @@
 //! Sends bytes to a link, which may take a part of them at each push.
 ghost use Rattle.std.specs.Prelude.{◌≡◌, ◌++◌, ℕ, List};
-ghost use Rattle.reply_print.specs.Reaching.{Told, told, Reached, Sends, wrote_of};
+ghost use Rattle.arc_core.specs.Outside.{Linked, linked};
+ghost use Rattle.reply_print.specs.Reaching.{Reached, Sends, wrote_of};
 
 use crate::Wrote;
 use arc_core::{Link, Push};
@@ -12,6 +13,8 @@ pub(crate) enum Unsent {
     Failed(u64),
     /// The link was refused memory, and counted the refusal.
     NoMemory(u64),
+    /// The link has to be asked again, and counted that.
+    Again(u64),
 }
 
 impl Unsent {
@@ -22,17 +25,18 @@ impl Unsent {
         match self {
             Unsent::Failed(at) => Wrote::Failed(at),
             Unsent::NoMemory(at) => Wrote::NoMemory(at),
+            Unsent::Again(at) => Wrote::Again(at),
         }
     }
 }
 
 /// Sends all bytes of the piece, in order, which stands at the offset `at` of a text, and tells the offset behind it.
 pub(crate) fn send<L: Link>(piece: &[u8], at: u64, link: &mut L) -> Result<u64, Unsent>
-    ensures { (start : Told) (from : ℕ) (text rest : List ℕ)
-        → Reached start (told (L.left link.old) (L.read_faults link.old) (L.sent link.old) (L.write_faults link.old)
-        (L.refusals link.old)) from at text (piece.now ++ rest)
-        → Sends start (told (L.left link.new) (L.read_faults link.new) (L.sent link.new) (L.write_faults link.new)
-        (L.refusals link.new)) from text rest result }
+    ensures { (start : Linked) (from : ℕ) (text rest : List ℕ)
+        → Reached start (linked (L.left link.old) (L.read_faults link.old) (L.sent link.old) (L.write_faults link.old)
+        (L.refusals link.old) (L.agains link.old)) from at text (piece.now ++ rest)
+        → Sends start (linked (L.left link.new) (L.read_faults link.new) (L.sent link.new) (L.write_faults link.new)
+        (L.refusals link.new) (L.agains link.new)) from text rest result }
 {
     let mut unsent = piece;
     let mut at = at;
@@ -45,6 +49,7 @@ pub(crate) fn send<L: Link>(piece: &[u8], at: u64, link: &mut L) -> Result<u64, 
             }
             Push::Failed => return Err(Unsent::Failed(at)),
             Push::NoMemory => return Err(Unsent::NoMemory(at)),
+            Push::Again => return Err(Unsent::Again(at)),
         }
     }
     Ok(at)

@@ -1,9 +1,9 @@
 //! The texts of replies, worked by hand, from each offset, over a link that takes them in parts or stops at one push.
 ghost use Rattle.std.specs.Prelude.{◌<◌, length, Some};
-ghost use Rattle.arc_core.specs.Outside.{Pushed};
+ghost use Rattle.arc_core.specs.Outside.{outgoing, LinkPushed};
 
 use crate::texts::capped_len;
-use crate::{Wrote, write_reply, write_word};
+use crate::{Outbox, WAITING_BYTES, Wrote, write_reply, write_word};
 use arc_core::{Key, KeyRef, Link, NoMemory, Pull, Push, Reply, Seq, Value, ValueRow, Word};
 use std::alloc::{AllocError, Global};
 use std::process::Abort;
@@ -15,6 +15,7 @@ enum Stop {
     Never,
     Fails(u64),
     Refuses(u64),
+    Waits(u64),
 }
 
 // A link in memory from which nothing comes, and of whose pushes each takes at most so many bytes.
@@ -26,6 +27,7 @@ struct TestLink {
     pushes: u64,
     faults: u64,
     refusals: u64,
+    agains: u64,
     ghost some: { 0 < most },
 }
 
@@ -42,6 +44,8 @@ impl Link for TestLink {
 
     ghost refusals = { λ link. link.refusals };
 
+    ghost agains = { λ link. link.agains };
+
     fn pull(&mut self, _buf: &mut [u8]) -> Pull {
         Pull::End
     }
@@ -57,6 +61,10 @@ impl Link for TestLink {
             Stop::Refuses(place) if place == push => {
                 self.refusals = self.refusals.saturating_add(1);
                 Push::NoMemory
+            }
+            Stop::Waits(place) if place == push => {
+                self.agains = self.agains.saturating_add(1);
+                Push::Again
             }
             _ => self.take(piece),
         }
@@ -75,14 +83,15 @@ impl TestLink {
             pushes: 0,
             faults: 0,
             refusals: 0,
+            agains: 0,
         }
     }
 
     // Takes the front of a piece.
     fn take(&mut self, piece: &[u8]) -> Push
         requires { 0 < length piece.now }
-        ensures { Pushed (Some self.old.sent.items) (Some self.new.sent.items) self.old.faults self.new.faults
-            self.old.refusals self.new.refusals piece.now result }
+        ensures { LinkPushed (outgoing (Some self.old.sent.items) self.old.faults self.old.refusals)
+            (outgoing (Some self.new.sent.items) self.new.faults self.new.refusals) self.old.agains self.new.agains piece.now result }
     {
         let count = piece.len().min(self.most);
         match self.sent.extend_from_slice(&piece[..count]) {
@@ -119,7 +128,7 @@ const WORDS: [(Word, &[u8]); 16] = [
     (Word::Deleted, b"DELETED\r\n"),
     (Word::Touched, b"TOUCHED\r\n"),
     (Word::Ok, b"OK\r\n"),
-    (Word::Version, b"VERSION arcus-profile-1\r\n"),
+    (Word::Version, b"VERSION arcus-profile-2\r\n"),
     (
         Word::NotNumeric,
         b"CLIENT_ERROR cannot increment or decrement non-numeric value\r\n",
@@ -240,6 +249,7 @@ fn tells_up_to_where_rows_were_sent(rt: HostRuntime) -> Result<(), Fail> {
             for place in 0..pushes as u64 {
                 check_stop(&rt, rt.alloc(), &reply, from, most, Stop::Fails(place));
                 check_stop(&rt, rt.alloc(), &reply, from, most, Stop::Refuses(place));
+                check_stop(&rt, rt.alloc(), &reply, from, most, Stop::Waits(place));
             }
         }
     }
@@ -252,19 +262,15 @@ fn check_stop(rt: &impl Abort, alloc: Global, reply: &Reply, from: usize, most: 
     let upto = from.saturating_add(link.sent.len());
     assert!(rt; from <= upto && upto < THREE_ROWS.len());
     assert!(rt; link.sent.as_slice() == &THREE_ROWS[from..upto]);
-    match stop {
+    let (place, answer, counts) = match stop {
         Stop::Never => panic!(rt; "no stop"),
-        Stop::Fails(place) => {
-            assert_eq!(rt; wrote, Wrote::Failed(upto as u64));
-            assert!(rt; link.faults == 1 && link.refusals == 0);
-            assert!(rt; upto - from == (place as usize).saturating_mul(most));
-        }
-        Stop::Refuses(place) => {
-            assert_eq!(rt; wrote, Wrote::NoMemory(upto as u64));
-            assert!(rt; link.faults == 0 && link.refusals == 1);
-            assert!(rt; upto - from == (place as usize).saturating_mul(most));
-        }
-    }
+        Stop::Fails(place) => (place, Wrote::Failed(upto as u64), (1, 0, 0)),
+        Stop::Refuses(place) => (place, Wrote::NoMemory(upto as u64), (0, 1, 0)),
+        Stop::Waits(place) => (place, Wrote::Again(upto as u64), (0, 0, 1)),
+    };
+    assert_eq!(rt; wrote, answer);
+    assert!(rt; (link.faults, link.refusals, link.agains) == counts);
+    assert!(rt; upto - from == (place as usize).saturating_mul(most));
 }
 
 #[test]
@@ -312,6 +318,29 @@ fn gathers_up_to_1024_bytes(rt: HostRuntime) -> Result<(), Fail> {
         let (wrote, link) = sent(&rt, alloc, &reply, 0, usize::MAX, Stop::Never);
         assert!(rt; wrote == Wrote::Done && link.pushes == pushes);
     }
+    Ok(())
+}
+
+#[test]
+fn texts_wait_where_they_have_room(rt: HostRuntime) -> Result<(), Fail> {
+    let alloc = rt.alloc();
+    let three = three_rows(&rt, alloc)?;
+    let mut outbox = Outbox::new(alloc)?;
+    assert!(rt;
+        outbox.put(&Reply::Word(Word::Stored))
+            && outbox.put(&three)
+            && outbox.put(&Reply::Number(7))
+    );
+    let waiting = outbox.bytes().len();
+    assert!(rt; waiting == 8 + THREE_ROWS.len() + 3);
+    assert!(rt; &outbox.bytes()[8..8 + THREE_ROWS.len()] == THREE_ROWS);
+    // A word has room up to the last byte, and then none.
+    let filler = vec![in alloc; b'x'; WAITING_BYTES - waiting - 8]?;
+    assert!(rt;
+        outbox.add(&filler) && !outbox.put(&three) && outbox.put(&Reply::Word(Word::Stored))
+    );
+    assert!(rt; outbox.bytes().len() == WAITING_BYTES && !outbox.put(&Reply::Number(7)));
+    assert!(rt; outbox.bytes().len() == WAITING_BYTES && outbox.bytes().ends_with(b"xSTORED\r\n"));
     Ok(())
 }
 

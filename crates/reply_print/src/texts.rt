@@ -2,23 +2,15 @@
 ghost use Rattle.std.specs.Prelude.{◌≡◌, ◌<◌, ◌≤◌, ◌^◌, ◌-◌, ◌++◌, min, length, codes, OnOk, []};
 ghost use Rattle.std.specs.List.{flat_map};
 ghost use Rattle.arc_core.specs.ReplyText.{reply_text, row_text, word_line, line_end};
+ghost use Rattle.arc_core.specs.Outside.{incoming, outgoing, linked};
 ghost use Rattle.reply_print.specs.Writing.{Writes};
-ghost use Rattle.reply_print.specs.Reaching.{told, PutsOut};
+ghost use Rattle.reply_print.specs.Reaching.{PutsOut};
 
 use crate::Wrote;
 use crate::gatherer::Gatherer;
-use crate::lines::{line_of, number_line, tail_of};
+use crate::lines::{END, LINE_END, ROW_START, line_of, number_line, tail_of};
 use crate::sending::{Unsent, send};
 use arc_core::{Link, Reply, ValueRow, Word};
-
-/// What begins the line of a found item.
-const ROW_START: &[u8] = b"VALUE ";
-
-/// What ends a line.
-const LINE_END: &[u8] = b"\r\n";
-
-/// The line behind the found items.
-const END: &[u8] = b"END\r\n";
 
 /// How many bytes the text of the reply has. The text has fewer than 2^64 bytes.
 pub fn reply_len(reply: &Reply) -> u64
@@ -62,17 +54,16 @@ fn row_len(row: &ValueRow) -> u64
 /// 2^64 bytes. Takes no memory.
 ///
 /// The text was sent whole, from there on, where `Done` is answered. Else it was sent up to the offset that is
-/// answered: `Failed` and `NoMemory` come only where the link has counted that.
+/// answered: `Failed`, `NoMemory` and `Again` come only where the link has counted that.
 ///
 /// Small pieces of the text go out together: a text of at most 1,024 bytes is given to the link as one piece.
 pub fn write_reply<L: Link>(reply: &Reply, from: u64, link: &mut L) -> Wrote
     requires fits { length (reply_text reply.now) < 2 ^ 64 }
     requires within { from ≤ length (reply_text reply.now) }
-    ensures writes { Writes (L.sent link.old) (L.sent link.new) (L.write_faults link.old) (L.write_faults link.new)
-        (L.refusals link.old) (L.refusals link.new) (reply_text reply.now) from result }
+    ensures writes { Writes (outgoing (L.sent link.old) (L.write_faults link.old) (L.refusals link.old))
+        (outgoing (L.sent link.new) (L.write_faults link.new) (L.refusals link.new)) (L.agains link.old) (L.agains link.new) (reply_text reply.now) from result }
     // Nothing is taken from the link.
-    ensures left { L.left link.new ≡ L.left link.old }
-    ensures read_faults { L.read_faults link.new ≡ L.read_faults link.old }
+    ensures incoming { incoming (L.left link.new) (L.read_faults link.new) ≡ incoming (L.left link.old) (L.read_faults link.old) }
 {
     match reply {
         Reply::Word(word) => write_word(*word, from, link),
@@ -85,11 +76,10 @@ pub fn write_reply<L: Link>(reply: &Reply, from: u64, link: &mut L) -> Wrote
 /// memory.
 pub fn write_word<L: Link>(word: Word, from: u64, link: &mut L) -> Wrote
     requires { from ≤ length (word_line word) }
-    ensures writes { Writes (L.sent link.old) (L.sent link.new) (L.write_faults link.old) (L.write_faults link.new)
-        (L.refusals link.old) (L.refusals link.new) (word_line word) from result }
+    ensures writes { Writes (outgoing (L.sent link.old) (L.write_faults link.old) (L.refusals link.old))
+        (outgoing (L.sent link.new) (L.write_faults link.new) (L.refusals link.new)) (L.agains link.old) (L.agains link.new) (word_line word) from result }
     // Nothing is taken from the link.
-    ensures left { L.left link.new ≡ L.left link.old }
-    ensures read_faults { L.read_faults link.new ≡ L.read_faults link.old }
+    ensures incoming { incoming (L.left link.new) (L.read_faults link.new) ≡ incoming (L.left link.old) (L.read_faults link.old) }
 {
     write_line(line_of(word), from, link)
 }
@@ -98,10 +88,9 @@ pub fn write_word<L: Link>(word: Word, from: u64, link: &mut L) -> Wrote
 fn write_line<L: Link>(line: &[u8], from: u64, link: &mut L) -> Wrote
     requires fits { length line.now < 2 ^ 64 }
     requires within { from ≤ length line.now }
-    ensures writes { Writes (L.sent link.old) (L.sent link.new) (L.write_faults link.old) (L.write_faults link.new)
-        (L.refusals link.old) (L.refusals link.new) line.now from result }
-    ensures left { L.left link.new ≡ L.left link.old }
-    ensures read_faults { L.read_faults link.new ≡ L.read_faults link.old }
+    ensures writes { Writes (outgoing (L.sent link.old) (L.write_faults link.old) (L.refusals link.old))
+        (outgoing (L.sent link.new) (L.write_faults link.new) (L.refusals link.new)) (L.agains link.old) (L.agains link.new) line.now from result }
+    ensures incoming { incoming (L.left link.new) (L.read_faults link.new) ≡ incoming (L.left link.old) (L.read_faults link.old) }
 {
     match send(&line[from as usize..], from, link) {
         Ok(_) => Wrote::Done,
@@ -113,10 +102,9 @@ fn write_line<L: Link>(line: &[u8], from: u64, link: &mut L) -> Wrote
 fn write_rows<L: Link>(rows: &[ValueRow], from: u64, link: &mut L) -> Wrote
     requires fits { length (flat_map row_text rows.now ++ codes "END" ++ line_end) < 2 ^ 64 }
     requires within { from ≤ length (flat_map row_text rows.now ++ codes "END" ++ line_end) }
-    ensures writes { Writes (L.sent link.old) (L.sent link.new) (L.write_faults link.old) (L.write_faults link.new)
-        (L.refusals link.old) (L.refusals link.new) (flat_map row_text rows.now ++ codes "END" ++ line_end) from result }
-    ensures left { L.left link.new ≡ L.left link.old }
-    ensures read_faults { L.read_faults link.new ≡ L.read_faults link.old }
+    ensures writes { Writes (outgoing (L.sent link.old) (L.write_faults link.old) (L.refusals link.old))
+        (outgoing (L.sent link.new) (L.write_faults link.new) (L.refusals link.new)) (L.agains link.old) (L.agains link.new) (flat_map row_text rows.now ++ codes "END" ++ line_end) from result }
+    ensures incoming { incoming (L.left link.new) (L.read_faults link.new) ≡ incoming (L.left link.old) (L.read_faults link.old) }
 {
     let mut gatherer = Gatherer::new(from);
     match put_answer(&mut gatherer, rows, link) {
@@ -132,8 +120,10 @@ fn put_answer<L: Link>(
     link: &mut L,
 ) -> Result<(), Unsent>
     ensures puts { PutsOut
-        (told (L.left link.old) (L.read_faults link.old) (L.sent link.old) (L.write_faults link.old) (L.refusals link.old))
-        (told (L.left link.new) (L.read_faults link.new) (L.sent link.new) (L.write_faults link.new) (L.refusals link.new))
+        (linked (L.left link.old) (L.read_faults link.old) (L.sent link.old) (L.write_faults link.old)
+        (L.refusals link.old) (L.agains link.old))
+        (linked (L.left link.new) (L.read_faults link.new) (L.sent link.new) (L.write_faults link.new)
+        (L.refusals link.new) (L.agains link.new))
         gatherer.old gatherer.new (flat_map row_text rows.now ++ codes "END" ++ line_end) result }
     ensures empty { OnOk result (gatherer.new.waiting ≡ []) }
 {
@@ -145,8 +135,10 @@ fn put_answer<L: Link>(
 // Puts out the rows.
 fn put_rows<L: Link>(gatherer: &mut Gatherer, rows: &[ValueRow], link: &mut L) -> Result<(), Unsent>
     ensures { PutsOut
-        (told (L.left link.old) (L.read_faults link.old) (L.sent link.old) (L.write_faults link.old) (L.refusals link.old))
-        (told (L.left link.new) (L.read_faults link.new) (L.sent link.new) (L.write_faults link.new) (L.refusals link.new))
+        (linked (L.left link.old) (L.read_faults link.old) (L.sent link.old) (L.write_faults link.old)
+        (L.refusals link.old) (L.agains link.old))
+        (linked (L.left link.new) (L.read_faults link.new) (L.sent link.new) (L.write_faults link.new)
+        (L.refusals link.new) (L.agains link.new))
         gatherer.old gatherer.new (flat_map row_text rows.now) result }
 {
     for row in rows {
@@ -158,8 +150,10 @@ fn put_rows<L: Link>(gatherer: &mut Gatherer, rows: &[ValueRow], link: &mut L) -
 // Puts out a row: its line, and its value as a line.
 fn put_row<L: Link>(gatherer: &mut Gatherer, row: &ValueRow, link: &mut L) -> Result<(), Unsent>
     ensures { PutsOut
-        (told (L.left link.old) (L.read_faults link.old) (L.sent link.old) (L.write_faults link.old) (L.refusals link.old))
-        (told (L.left link.new) (L.read_faults link.new) (L.sent link.new) (L.write_faults link.new) (L.refusals link.new))
+        (linked (L.left link.old) (L.read_faults link.old) (L.sent link.old) (L.write_faults link.old)
+        (L.refusals link.old) (L.agains link.old))
+        (linked (L.left link.new) (L.read_faults link.new) (L.sent link.new) (L.write_faults link.new)
+        (L.refusals link.new) (L.agains link.new))
         gatherer.old gatherer.new (row_text row.now) result }
 {
     gatherer.put(ROW_START, link)?;

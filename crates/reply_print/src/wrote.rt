@@ -9,4 +9,6 @@ pub enum Wrote {
     Failed(u64),
     /// The link was refused memory, and counted the refusal. The text was sent up to this offset.
     NoMemory(u64),
+    /// The link has to be asked again, and counted that. The text was sent up to this offset.
+    Again(u64),
 }

@@ -1,4 +1,6 @@
 //! Sets: distinct values in the order of insertion, found by their bytes.
+//!
+//! `values` has all of it. The laws on lists that show what another list holds are `arc_core`'s (`MappedLists`).
 #![tactic(auto)]
 
 #[cfg(test)]

@@ -1,24 +1,20 @@
-use Rattle.std.proofs.Common.{◌≡◌, ◌<◌, length, Some, sym, ◌∙◌, ap, arith}
-use Rattle.arc_core.specs.Words.{words, are_keys}
-use Rattle.arc_core.proofs.KeyWordLemmas.{key_count-above, key_count-bad, key_count-all, are_keys-bad}
+use Rattle.std.proofs.Common.{sym, ◌∙◌, arith}
+use Rattle.arc_core.proofs.KeyWordLemmas.{one_more, stopped, all_taken}
 use Rattle.arc_core.proofs.word_lists.count_keys.Goals as goal
-use Rattle.arc_core.proofs.word_lists.count_keys.Goals.{then-count-most-via-then-count-most, then-count-most-via-else-count-most+then-is_err}
 
-pub returns-then-count-most : goal.returns-then-count-most
-returns-then-count-most c =
-    let list = words c.args.text.now in
-    let left = c.in-Some.ensures.steps in
-    elim c.then-count-most.branch [
-      | then-count-most-via-then-count-most w ↦
-          let above : c.args.most < length list = omega (arith, ap length left) in sym (key_count-above c.args.most list above)
-      | then-count-most-via-else-count-most+then-is_err w ↦
-          let bad = are_keys-bad c.in-Some.word.now c.next.new.self w.read.result w.read.ensures (sym w.if-is_err.ensures.value) in
-          sym (key_count-bad c.args.most list (c.loop-word.invariant.keys ∙ ap are_keys left ∙ bad))
-    ]
+pub returns-in_default : goal.returns-in_default
+returns-in_default c =
+    let last = stopped c.args.most c.loop-count.count _ _ c.next_key.result c.next_key.new.self c.loop-count.invariant.counted c.loop-count.invariant.keys
+    (omega (arith, c.loop-count-test.true)) c.next_key.ensures.read c.in_default.is in
+    c.then_some.ensures ∙ rw (c.is_empty.ensures, c.in_default.ensures.kept) (sym last)
+
+pub loop-count-preserved : goal.loop-count-preserved
+loop-count-preserved c =
+    let more = one_more _ _ _ c.loop-count.count c.next_key.result c.loop-count.invariant.counted c.loop-count.invariant.keys c.next_key.ensures.read
+    c.in-Some.field-0 c.in-Some.is in
+    record { counted = more.0; keys = more.1 }
 
 pub returns : goal.returns
 returns c =
-    let list = words c.args.text.now in
-    let left = c.in-None.ensures.steps.0 in
-    let same : length list ≡ c.loop-word.count = omega (arith, ap length left) in
-    sym (key_count-all c.args.most list (omega arith) (c.loop-word.invariant.keys ∙ ap are_keys left) ∙ ap Some same)
+    let last = all_taken c.args.most c.loop-count.count _ _ c.loop-count.invariant.counted c.loop-count.invariant.keys (omega (arith, c.loop-count-test.false, c.loop-count.auto.count-end)) in
+    c.then_some-2.ensures ∙ rw c.is_empty-2.ensures (sym last)

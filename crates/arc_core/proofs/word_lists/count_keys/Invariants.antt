@@ -1,11 +1,11 @@
-use Rattle.std.proofs.Common.{◌≡◌, ◌+◌, ◌≤◌, length}
-use Rattle.arc_core.specs.Words.{words, are_keys}
+use Rattle.std.proofs.Common.{◌≡◌, ◌+◌, length}
+use Rattle.arc_core.specs.Words.{are_keys}
 use Rattle.arc_core.proofs.word_lists.count_keys.Given as goal
 
-abbrev pub invariant-loop-word : goal.invariant-loop-word
-invariant-loop-word l =
+-- the words so far are keys, as many as were counted
+abbrev pub invariant-loop-count : goal.invariant-loop-count
+invariant-loop-count l =
     record {
-      counted : l.count + length l.word-iterator ≡ length (words l.text);
-      fits : l.count ≤ l.most;
-      keys : are_keys (words l.text) ≡ are_keys l.word-iterator;
+      counted : l.count + length l.words ≡ length l.initial.words;
+      keys : are_keys l.initial.words ≡ are_keys l.words;
     }

@@ -1,37 +1,45 @@
-use Rattle.std.proofs.Common.{sym, subst}
-use Rattle.arcus_tool.specs.Handling.{Stops, TakesAll}
-use Rattle.arcus_tool.proofs.Flushing.{flushed_on, flushed_at_quit, flushed_at_long_line, broke_waiting, with_nothing_waiting, since_start}
+use Rattle.std.proofs.Common.{◌≡◌, ◌≤◌, ◌^◌, ◌∙◌, ◌++◌, sym, ap, subst, length, length-append, arith}
+use Rattle.arc_core.specs.Outside.{first_then, incoming}
+use Rattle.arcus_tool.specs.Handling.{Stops}
+use Rattle.arcus_tool.specs.Session.{start_of}
+use Rattle.arcus_tool.proofs.Flushing.{broke_waiting, since_start}
+use Rattle.arcus_tool.proofs.Ending.{over_at_quit, over_at_long_line, over_at_write_fault, over_without_memory}
 use Rattle.arcus_tool.proofs.sessions.handle_piece.Goals as goal
 
-pub returns-in-Ok-clause-goes : goal.returns-in-Ok-clause-goes
-returns-in-Ok-clause-goes g c = λ from taken same goes.
-    let goes = with_nothing_waiting from _ _ _ _ _ _ taken _ _ c.requires.nothing_waits goes in
-    flushed_on from _ _ _ _ _ _ _ _ _ _ (since_start from _ _ same c.flush.new.self.grew) taken _ c.flush.result (c.in-Ok.ensures.goes from taken goes) c.flush.ensures.flushes
+pub returns-in-Err-Quit-clause-leaves : goal.returns-in-Err-Quit-clause-leaves
+returns-in-Err-Quit-clause-leaves g c = λ opening before taken few began came.
+    let piece = c.args.piece.now in
+    let arm = c.in-Err-Quit in
+    let stops = subst (Stops (start_of opening before) _ (taken ++ piece) (length piece)) arm.field-0-is (arm.ensures.goes (start_of opening before) (taken ++ piece) came.goes) in
+    let source = c.finish.ensures.source in
+    let same = ap (λ s. incoming (g.S.Source.left s) (g.S.Source.read_faults s)) source ∙ arm.ensures.incoming in
+    over_at_quit opening before _ _ _ (taken ++ piece) (came.took ∙ ap (λ i. first_then (taken ++ piece) i.left) (sym same)) (ap (λ i. i.faults) same ∙ came.no_fault) _ _ _ _
+    (omega (arith, length-append taken piece, few)) c.finish.result (length piece) (since_start _ _ _ began c.finish.new.link.grew) c.requires.few stops c.finish.ensures.finishes
 
-pub returns-in-Err-Quit-clause-goes : goal.returns-in-Err-Quit-clause-goes
-returns-in-Err-Quit-clause-goes g c = λ from taken same goes.
-    let goes = with_nothing_waiting from _ _ _ _ _ _ taken _ _ c.requires.nothing_waits goes in
-    let stops = subst (Stops from _ taken) c.in-Err-Quit.field-0-is (c.in-Err-Quit.ensures.goes from taken goes) in
-    let flush = c.flush-in-Err-Quit in
-    subst (TakesAll from _ taken _) (sym c.and.ensures)
-    (flushed_at_quit from _ _ _ _ _ _ _ _ _ _ (since_start from _ _ same flush.new.self.grew) taken _ flush.result stops flush.ensures.flushes)
+pub returns-in-Err-LineTooLong-clause-leaves : goal.returns-in-Err-LineTooLong-clause-leaves
+returns-in-Err-LineTooLong-clause-leaves g c = λ opening before taken few began came.
+    let piece = c.args.piece.now in
+    let arm = c.in-Err-LineTooLong in
+    let stops = subst (Stops (start_of opening before) _ (taken ++ piece) (length piece)) arm.field-0-is (arm.ensures.goes (start_of opening before) (taken ++ piece) came.goes) in
+    let source = c.finish-in-Err-LineTooLong.ensures.source in
+    let same = ap (λ s. incoming (g.S.Source.left s) (g.S.Source.read_faults s)) source ∙ arm.ensures.incoming in
+    over_at_long_line opening before _ _ _ (taken ++ piece) (came.took ∙ ap (λ i. first_then (taken ++ piece) i.left) (sym same)) (ap (λ i. i.faults) same ∙ came.no_fault) _ _ _ _
+    (omega (arith, length-append taken piece, few)) c.finish-in-Err-LineTooLong.result (length piece) (since_start _ _ _ began c.finish-in-Err-LineTooLong.new.link.grew) c.requires.few stops c.finish-in-Err-LineTooLong.ensures.finishes
 
-pub returns-in-Err-LineTooLong-clause-goes : goal.returns-in-Err-LineTooLong-clause-goes
-returns-in-Err-LineTooLong-clause-goes g c = λ from taken same goes.
-    let goes = with_nothing_waiting from _ _ _ _ _ _ taken _ _ c.requires.nothing_waits goes in
-    let stops = subst (Stops from _ taken) c.in-Err-LineTooLong.field-0-is (c.in-Err-LineTooLong.ensures.goes from taken goes) in
-    let flush = c.flush-in-Err-LineTooLong in
-    subst (TakesAll from _ taken _) (sym c.and-in-Err-LineTooLong.ensures)
-    (flushed_at_long_line from _ _ _ _ _ _ _ _ _ _ (since_start from _ _ same flush.new.self.grew) taken _ flush.result stops flush.ensures.flushes)
+pub returns-in-Err-Failed-clause-leaves : goal.returns-in-Err-Failed-clause-leaves
+returns-in-Err-Failed-clause-leaves g c = λ opening before taken few began came.
+    let piece = c.args.piece.now in
+    let arm = c.in-Err-Failed in
+    let stops = subst (Stops (start_of opening before) _ (taken ++ piece) (length piece)) arm.field-0-is (arm.ensures.goes (start_of opening before) (taken ++ piece) came.goes) in
+    let same = arm.ensures.incoming in
+    over_at_write_fault opening before _ _ _ (taken ++ piece) (came.took ∙ ap (λ i. first_then (taken ++ piece) i.left) (sym same)) (ap (λ i. i.faults) same ∙ came.no_fault) _
+    (omega (arith, length-append taken piece, few)) (broke_waiting (start_of opening before) _ _ _ _ (taken ++ piece) _ (since_start _ _ _ began c.take_piece.new.link.grew) stops)
 
-pub returns-in-Err-Failed-clause-goes : goal.returns-in-Err-Failed-clause-goes
-returns-in-Err-Failed-clause-goes g c = λ from taken same goes.
-    let goes = with_nothing_waiting from _ _ _ _ _ _ taken _ _ c.requires.nothing_waits goes in
-    let stops = subst (Stops from _ taken) c.in-Err-Failed.field-0-is (c.in-Err-Failed.ensures.goes from taken goes) in
-    broke_waiting from _ _ _ _ _ _ taken _ (since_start from _ _ same c.take_piece.new.link.grew) stops
-
-pub returns-in-Err-NoMemory-clause-goes : goal.returns-in-Err-NoMemory-clause-goes
-returns-in-Err-NoMemory-clause-goes g c = λ from taken same goes.
-    let goes = with_nothing_waiting from _ _ _ _ _ _ taken _ _ c.requires.nothing_waits goes in
-    let stops = subst (Stops from _ taken) c.in-Err-NoMemory.field-0-is (c.in-Err-NoMemory.ensures.goes from taken goes) in
-    broke_waiting from _ _ _ _ _ _ taken _ (since_start from _ _ same c.take_piece.new.link.grew) stops
+pub returns-in-Err-NoMemory-clause-leaves : goal.returns-in-Err-NoMemory-clause-leaves
+returns-in-Err-NoMemory-clause-leaves g c = λ opening before taken few began came.
+    let piece = c.args.piece.now in
+    let arm = c.in-Err-NoMemory in
+    let stops = subst (Stops (start_of opening before) _ (taken ++ piece) (length piece)) arm.field-0-is (arm.ensures.goes (start_of opening before) (taken ++ piece) came.goes) in
+    let same = arm.ensures.incoming in
+    over_without_memory opening before _ _ _ (taken ++ piece) (came.took ∙ ap (λ i. first_then (taken ++ piece) i.left) (sym same)) (ap (λ i. i.faults) same ∙ came.no_fault) _
+    (omega (arith, length-append taken piece, few)) (broke_waiting (start_of opening before) _ _ _ _ (taken ++ piece) _ (since_start _ _ _ began c.take_piece.new.link.grew) stops)

@@ -3,7 +3,7 @@ use Rattle.std.specs.Str.{bytes_eq}
 use Rattle.std.proofs.lemmas.Map.Made.{AllPairs-from_IsDistinct}
 use Rattle.std.proofs.lemmas.Slice.Eq.{bytes_eq-Decides}
 use Rattle.map_coll.specs.MapContents.{MapContents}
-use Rattle.map_coll.proofs.MappedLists.{distinct_seen}
+use Rattle.arc_core.proofs.MappedLists.{distinct_seen}
 use Rattle.map_coll.proofs.EntryLemmas.{fields_seen}
 use Rattle.map_coll.proofs.pairs.MapColl.count.Goals as goal
 

@@ -4,7 +4,7 @@ use Rattle.std.proofs.lemmas.List.{length-append}
 use Rattle.std.proofs.lemmas.List.Elements.{All-push}
 use Rattle.arc_core.specs.Key.{IsKey}
 use Rattle.map_coll.specs.MapContents.{MapContents, place_of}
-use Rattle.map_coll.proofs.MappedLists.{absent_seen}
+use Rattle.arc_core.proofs.MappedLists.{absent_seen}
 use Rattle.map_coll.proofs.EntryLemmas.{fields_seen, inserted_last, pair_pushed}
 use Rattle.map_coll.proofs.pairs.MapColl.insert_spare.Goals as goal
 

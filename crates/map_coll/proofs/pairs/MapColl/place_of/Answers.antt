@@ -1,7 +1,7 @@
 use Rattle.std.proofs.Common.{ap}
 use Rattle.std.specs.Str.{bytes_eq}
 use Rattle.map_coll.specs.MapContents.{MapContents}
-use Rattle.map_coll.proofs.MappedLists.{position_seen}
+use Rattle.arc_core.proofs.MappedLists.{position_seen}
 use Rattle.map_coll.proofs.EntryLemmas.{fields_seen}
 use Rattle.map_coll.proofs.pairs.MapColl.place_of.Goals as goal
 

@@ -1,7 +1,7 @@
 use Rattle.std.proofs.Common.{◌≡◌, arith, All, false, ap, sym, subst}
 use Rattle.arc_core.specs.Key.{IsKey}
 use Rattle.map_coll.specs.MapContents.{MapContents}
-use Rattle.map_coll.proofs.MappedLists.{remove_seen}
+use Rattle.arc_core.proofs.MappedLists.{remove_seen}
 use Rattle.map_coll.proofs.EntryLemmas.{All-remove}
 use Rattle.map_coll.proofs.pairs.MapColl.remove.Goals as goal
 

@@ -1,6 +1,6 @@
 use Rattle.std.proofs.Common.{ap, ◌∙◌}
 use Rattle.map_coll.specs.MapContents.{MapContents}
-use Rattle.map_coll.proofs.MappedLists.{drop_seen, first_removed}
+use Rattle.arc_core.proofs.MappedLists.{drop_seen, first_removed}
 use Rattle.map_coll.proofs.pairs.MapColl.remove_first.Goals as goal
 
 pub returns-clause-pairs : goal.returns-clause-pairs

@@ -3,7 +3,7 @@ use Rattle.std.specs.Str.{bytes_eq}
 use Rattle.std.proofs.lemmas.Map.Made.{AllPairs-from_IsDistinct}
 use Rattle.std.proofs.lemmas.Slice.Eq.{bytes_eq-Decides}
 use Rattle.set_coll.specs.SetContents.{SetContents}
-use Rattle.set_coll.proofs.MappedLists.{distinct_seen}
+use Rattle.arc_core.proofs.MappedLists.{distinct_seen}
 use Rattle.set_coll.proofs.values.SetColl.count.Goals as goal
 
 pub returns-clause-distinct : goal.returns-clause-distinct

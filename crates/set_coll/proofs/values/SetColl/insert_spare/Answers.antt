@@ -1,7 +1,7 @@
 use Rattle.std.proofs.Common.{ap}
 use Rattle.std.specs.Str.{bytes_eq}
 use Rattle.set_coll.specs.SetContents.{SetContents}
-use Rattle.set_coll.proofs.MappedLists.{absent_seen, inserted_last, push_seen}
+use Rattle.arc_core.proofs.MappedLists.{absent_seen, inserted_last, push_seen}
 use Rattle.set_coll.proofs.values.SetColl.insert_spare.Goals as goal
 
 pub returns-clause-values : goal.returns-clause-values

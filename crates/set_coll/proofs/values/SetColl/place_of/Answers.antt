@@ -1,7 +1,7 @@
 use Rattle.std.proofs.Common.{ap}
 use Rattle.std.specs.Str.{bytes_eq}
 use Rattle.set_coll.specs.SetContents.{SetContents}
-use Rattle.set_coll.proofs.MappedLists.{position_seen}
+use Rattle.arc_core.proofs.MappedLists.{position_seen}
 use Rattle.set_coll.proofs.values.SetColl.place_of.Goals as goal
 
 pub returns-in_err-place-clause-place : goal.returns-in_err-place-clause-place

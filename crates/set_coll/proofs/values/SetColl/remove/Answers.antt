@@ -1,6 +1,6 @@
 use Rattle.std.proofs.Common.{ap}
 use Rattle.set_coll.specs.SetContents.{SetContents}
-use Rattle.set_coll.proofs.MappedLists.{remove_seen}
+use Rattle.arc_core.proofs.MappedLists.{remove_seen}
 use Rattle.set_coll.proofs.values.SetColl.remove.Goals as goal
 
 pub returns-clause-values : goal.returns-clause-values

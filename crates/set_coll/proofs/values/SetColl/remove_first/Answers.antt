@@ -1,6 +1,6 @@
 use Rattle.std.proofs.Common.{ap, ◌∙◌}
 use Rattle.set_coll.specs.SetContents.{SetContents}
-use Rattle.set_coll.proofs.MappedLists.{drop_seen, first_removed}
+use Rattle.arc_core.proofs.MappedLists.{drop_seen, first_removed}
 use Rattle.set_coll.proofs.values.SetColl.remove_first.Goals as goal
 
 pub returns-clause-values : goal.returns-clause-values

@@ -1,0 +1,10 @@
+pub mod BalanceLemmas
+pub mod ChildrenLemmas
+pub mod MovingLemmas
+pub mod SplitLemmas
+pub mod InsertLemmas
+pub mod MiddleLemmas
+pub mod RunLemmas
+pub mod PairLemmas
+pub mod MendLemmas
+pub mod TrimLemmas

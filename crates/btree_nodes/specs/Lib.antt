@@ -1,0 +1,11 @@
+pub mod Empties
+pub mod FoundAt
+pub mod Growth
+pub mod Leveling
+pub mod NodeFalls
+pub mod NodeRules
+pub mod PartRules
+pub mod Removal
+pub mod SpareNodes
+pub mod Splits
+pub mod Subtree

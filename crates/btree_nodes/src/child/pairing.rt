@@ -1,0 +1,123 @@
+//! Nodes with too few elements or children, and their neighbours.
+ghost use Rattle.std.specs.Prelude.{◌≡◌, ◌+◌, ◌^◌, ◌≤◌, ◌<◌, ◌++◌, length, vec_capacity, take, drop, ◌∷◌};
+ghost use Rattle.std.specs.Option.{option_to_list};
+ghost use Rattle.btree_nodes.specs.Subtree.{Subtree, all_elements, branch_of, height_over, IsBranch};
+ghost use Rattle.btree_nodes.specs.NodeRules.{subtree_of};
+ghost use Rattle.btree_nodes.specs.declared.child.Node.TheVariants.{Leaf, Branch};
+ghost use Rattle.btree_nodes.specs.Removal.{IsLooseAt, IsPaired, IsLooseBranch, IsMended};
+ghost use Rattle.btree_nodes.specs.Leveling.{IsLeveled};
+
+use super::splitting::MIN_WIDTH;
+use super::{Child, Node};
+use crate::moving::{move_first, move_last};
+use crate::spare::MAX_WIDTH;
+use arc_core::Elem;
+
+/// Moves items between neighbours that are more than one node holds together, until each has enough. One that is short
+/// takes from its right neighbour all that this one can do without, so that what is removed at the left end of a tree
+/// finds full nodes; else it takes half of what the left neighbour has more.
+fn level<T: Drop>(left: &mut Vec<T>, right: &mut Vec<T>)
+    requires left_most { length left.old.items ≤ 32 }
+    requires right_most { length right.old.items ≤ 32 }
+    requires together { 32 < length left.old.items + length right.old.items }
+    requires left_room { 32 ≤ vec_capacity left.old }
+    requires right_room { 32 ≤ vec_capacity right.old }
+    ensures { IsLeveled left.old right.old left.new right.new }
+{
+    if left.len() < MIN_WIDTH {
+        let number = right.len() - MIN_WIDTH;
+        move_first(right, left, number);
+    } else if right.len() < MIN_WIDTH {
+        let number = (left.len() - right.len()) / 2;
+        move_last(left, right, number);
+    }
+}
+
+/// The elements of two neighbours in one leaf, or in two where they are too many.
+fn pair_leaves(mut left: Vec<Elem>, mut right: Vec<Elem>) -> (Child, Option<Child>)
+    requires left_most { length left.items ≤ 32 }
+    requires right_most { length right.items ≤ 32 }
+    requires enough { 16 ≤ length left.items + length right.items }
+    requires left_room { 32 ≤ vec_capacity left }
+    requires right_room { 32 ≤ vec_capacity right }
+    ensures { IsPaired 2 (subtree_of (Leaf left)) (subtree_of (Leaf right)) result.0 result.1 }
+{
+    if left.len() + right.len() <= MAX_WIDTH {
+        left.append(&mut right).unwrap();
+        return (Child::of_leaf(left), None);
+    }
+    level(&mut left, &mut right);
+    (Child::of_leaf(left), Some(Child::of_leaf(right)))
+}
+
+/// The children of two neighbours below one branch, or below two where they are too many.
+fn pair_branches(mut left: Vec<Child>, mut right: Vec<Child>) -> (Child, Option<Child>)
+    requires left { IsBranch left.items (vec_capacity left) }
+    requires right { IsBranch right.items (vec_capacity right) }
+    requires level { height_over left.items ≡ height_over right.items }
+    requires enough { 16 ≤ length left.items + length right.items }
+    requires fits { length (all_elements left.items) + length (all_elements right.items) < 2 ^ 32 }
+    ensures { IsPaired (height_over left.items + 1) (branch_of left.items (vec_capacity left)) (branch_of right.items (vec_capacity right)) result.0 result.1 }
+{
+    if left.len() + right.len() <= MAX_WIDTH {
+        left.append(&mut right).unwrap();
+        return (Child::of_branch(left), None);
+    }
+    level(&mut left, &mut right);
+    (Child::of_branch(left), Some(Child::of_branch(right)))
+}
+
+/// Two neighbours in one node, or in two where they have too much for one.
+fn pair(left: Child, right: Child) -> (Child, Option<Child>)
+    requires left_room { 32 ≤ left.room }
+    requires right_room { 32 ≤ right.room }
+    requires level { left.height ≡ right.height }
+    requires enough { 16 ≤ left.width + right.width }
+    requires fits { length left.elements + length right.elements < 2 ^ 32 }
+    ensures { IsPaired (left.height + 1) left right result.0 result.1 }
+{
+    match left.node {
+        Node::Leaf(left) => {
+            let Node::Leaf(right) = right.node else {
+                unreachable!()
+            };
+            pair_leaves(left, right)
+        }
+        Node::Branch(left) => {
+            let Node::Branch(right) = right.node else {
+                unreachable!()
+            };
+            pair_branches(left, right)
+        }
+    }
+}
+
+/// Puts a child, and a second one where there is one, before those at a place and behind it.
+fn put_back(children: &mut Vec<Child>, place: usize, first: Child, second: Option<Child>)
+    requires place { place ≤ length children.old.items }
+    requires room { length children.old.items + 2 ≤ vec_capacity children.old }
+    ensures items { children.new.items ≡ take place children.old.items ++ (first ∷ (option_to_list second ++ drop place children.old.items)) }
+    ensures capacity { vec_capacity children.old ≤ vec_capacity children.new }
+{
+    if let Some(second) = second {
+        children.insert(place, second).unwrap();
+    }
+    children.insert(place, first).unwrap();
+}
+
+/// Mends the child at `index` with a neighbour, where it has too few elements or children.
+pub(super) fn mend(children: &mut Vec<Child>, index: usize)
+    requires loose { IsLooseBranch children.old.items (vec_capacity children.old) index }
+    requires fits { length (all_elements children.old.items) < 2 ^ 32 }
+    ensures mended { IsMended children.old.items children.new.items (vec_capacity children.new) }
+    ensures capacity { vec_capacity children.old ≤ vec_capacity children.new }
+{
+    if children[index].width() >= MIN_WIDTH {
+        return;
+    }
+    let place = index.min(children.len() - 2);
+    let left = children.remove(place);
+    let right = children.remove(place);
+    let (first, second) = pair(left, right);
+    put_back(children, place, first, second);
+}

@@ -1,0 +1,72 @@
+//! Elements that stand next to each other in a leaf.
+ghost use Rattle.std.specs.Prelude.{◌≡◌, ◌%◌, ◌^◌, ◌≤◌, ◌<◌, length, vec_capacity};
+ghost use Rattle.std.specs.List.{remove_range};
+ghost use Rattle.arc_core.specs.TreeContents.{bkey_size, elem_size, elem_sizes};
+ghost use Rattle.btree_nodes.specs.Removal.{IsRun};
+
+use arc_core::{Bkey, Elem};
+
+/// Elements that were removed: how many, their stated sizes together modulo 2^64, and the last of them.
+#[derive(Drop)]
+pub(crate) struct Run {
+    pub(crate) count: usize,
+    pub(crate) size: u64,
+    pub(crate) last: Elem,
+}
+
+/// The bytes that a bkey counts.
+fn bkey_size(bkey: &Bkey) -> usize
+    ensures size { result ≡ bkey_size bkey.now }
+    ensures most { result ≤ 31 }
+{
+    match bkey {
+        Bkey::Number(_) => 8,
+        Bkey::Bytes(bytes) => bytes.bytes().len(),
+    }
+}
+
+/// The stated size of an element, in bytes.
+fn elem_size(elem: &Elem) -> u64
+    ensures { result ≡ elem_size elem.now }
+{
+    let eflag = elem.eflag.as_ref().map_or(0, |eflag| eflag.bytes().len());
+    48 + bkey_size(&elem.bkey) as u64 + eflag as u64 + elem.value.bytes().len() as u64
+}
+
+/// The stated sizes of these elements together, modulo 2^64.
+fn elem_sizes(elements: &[Elem]) -> u64
+    ensures { result ≡ elem_sizes elements.now % 2 ^ 64 }
+{
+    let mut size = 0u64;
+    for elem in elements {
+        size = size.wrapping_add(elem_size(elem));
+    }
+    size
+}
+
+/// Drops the elements from place `low` to before place `high`.
+fn drop_range(elements: &mut Vec<Elem>, low: usize, high: usize)
+    requires order { low ≤ high }
+    requires within { high ≤ length elements.old.items }
+    ensures items { elements.new.items ≡ remove_range elements.old.items low high }
+    ensures capacity { vec_capacity elements.new ≡ vec_capacity elements.old }
+{
+    if low < high {
+        elements.drain(low..high);
+    }
+}
+
+/// Removes at most `most` elements from a place on.
+pub(crate) fn take_run(elements: &mut Vec<Elem>, place: usize, most: usize) -> Run
+    requires place { place < length elements.old.items }
+    requires most { 1 ≤ most }
+    ensures run { IsRun elements.old.items place most elements.new.items result }
+    ensures capacity { vec_capacity elements.new ≡ vec_capacity elements.old }
+{
+    let count = most.min(elements.len() - place);
+    let end = place + count;
+    let size = elem_sizes(&elements[place..end]);
+    drop_range(elements, place, end - 1);
+    let last = elements.remove(place);
+    Run { count, size, last }
+}

@@ -1,0 +1,141 @@
+//! Texts that wait, so that those of many units go out in one push.
+ghost use Rattle.std.specs.Prelude.{◌≡◌, ◌+◌, ◌<◌, ◌≤◌, [], ◌++◌, length, drop, nat_le, if◌then◌else◌, MatchBool, codes, IfOk, vec_len, vec_capacity};
+ghost use Rattle.std.specs.List.{flat_map};
+ghost use Rattle.arc_core.specs.ReplyText.{reply_text, row_text, line_end};
+ghost use Rattle.reply_print.specs.Waiting.{IsPut, IsPutInPart};
+
+use crate::lines::{END, LINE_END, ROW_START, line_of, number_line, tail_of};
+use arc_core::{NoMemory, Reply, ValueRow};
+use std::alloc::Global;
+use std::marker::Model;
+
+/// The most bytes that wait.
+pub const WAITING_BYTES: usize = 16_384;
+
+/// The most bytes of a found item's text but its key and its value: `VALUE `, a line end, and a line's tail.
+const ROW_FRAME_BYTES: usize = 80;
+
+/// Bytes that wait to be sent, 16,384 at most. Contracts see the list of them.
+#[derive(Drop)]
+pub struct Outbox {
+    // Never more than its memory, which is taken once.
+    bytes: Vec<u8>,
+}
+
+impl Model for Outbox {
+    ghost use Rattle.std.specs.Prelude.{List, ℕ, ◌≤◌, vec_len, vec_capacity};
+
+    ghost Value = { List ℕ };
+
+    ghost view = { λ outbox. outbox.bytes.items };
+
+    ghost invariant = { λ outbox. (vec_len outbox.bytes ≤ 16384) × (16384 ≤ vec_capacity outbox.bytes) };
+}
+
+impl Outbox {
+    /// An outbox in which nothing waits. It takes memory for 16,384 bytes, and none later. `NoMemory` comes for want of
+    /// memory alone.
+    pub fn new(alloc: Global) -> Result<Outbox, NoMemory>
+        ensures { IfOk result (λ outbox. outbox ≡ []) }
+    {
+        let bytes = Vec::with_capacity(alloc, WAITING_BYTES)?;
+        Ok(Outbox { bytes })
+    }
+
+    /// The bytes that wait.
+    pub fn bytes(&self) -> &[u8]
+        ensures bytes { result.now ≡ self.now }
+        ensures fits { length result.now ≤ 16384 }
+    {
+        &self.bytes
+    }
+
+    /// Puts a piece behind all that waits, where it has room, and tells whether it has. Else nothing has changed.
+    pub fn add(&mut self, piece: &[u8]) -> bool
+        ensures room { result ≡ nat_le (length self.old + length piece.now) 16384 }
+        ensures waits { self.new ≡ (if result then self.old ++ piece.now else self.old) }
+    {
+        if piece.len() > WAITING_BYTES - self.bytes.len() {
+            return false;
+        }
+        append(&mut self.bytes, piece);
+        true
+    }
+
+    /// Puts the whole text of a reply behind all that waits, where it has room with some bytes to spare, and tells
+    /// whether it has. Else nothing has changed: the text has fewer than 80 bytes less than there is room for, or more.
+    /// Takes no memory.
+    pub fn put(&mut self, reply: &Reply) -> bool
+        ensures { IsPut self.old self.new (reply_text reply.now) result }
+    {
+        match reply {
+            Reply::Word(word) => self.add(line_of(*word)),
+            Reply::Number(number) => self.add(number_line(*number).bytes()),
+            Reply::Values(rows) => self.put_rows(rows.as_slice()),
+        }
+    }
+
+    /// So many bytes at the front were sent. (All, but where a link takes a part.)
+    pub fn took(&mut self, count: usize)
+        requires { count ≤ length self.old }
+        ensures { self.new ≡ drop count self.old }
+    {
+        if count == self.bytes.len() {
+            self.bytes.clear();
+        } else {
+            let left = self.bytes.len() - count;
+            self.bytes.copy_within(count.., 0);
+            self.bytes.truncate(left);
+        }
+    }
+
+    // Puts found items and the end of their answer last, all of it or nothing.
+    fn put_rows(&mut self, rows: &[ValueRow]) -> bool
+        ensures { IsPut self.old self.new (flat_map row_text rows.now ++ codes "END" ++ line_end) result }
+    {
+        let before = self.bytes.len();
+        if self.put_each(rows) && self.add(END) {
+            return true;
+        }
+        self.bytes.truncate(before);
+        false
+    }
+
+    // Puts found items last, up to the first that has no room.
+    fn put_each(&mut self, rows: &[ValueRow]) -> bool
+        ensures { IsPutInPart self.old self.new (flat_map row_text rows.now) result }
+    {
+        for row in rows {
+            if !self.put_row(row) {
+                return false;
+            }
+        }
+        true
+    }
+
+    // Puts a found item last: its line, and its value as a line.
+    fn put_row(&mut self, row: &ValueRow) -> bool
+        ensures { IsPut self.old self.new (row_text row.now) result }
+    {
+        let key = row.key.bytes();
+        let value = row.value.bytes();
+        if WAITING_BYTES - self.bytes.len() < key.len() + value.len() + ROW_FRAME_BYTES {
+            return false;
+        }
+        append(&mut self.bytes, ROW_START);
+        append(&mut self.bytes, key);
+        append(&mut self.bytes, tail_of(row).bytes());
+        append(&mut self.bytes, value);
+        append(&mut self.bytes, LINE_END);
+        true
+    }
+}
+
+// Puts bytes last, for which there is memory.
+fn append(kept: &mut Vec<u8>, bytes: &[u8])
+    requires { vec_len kept.old + length bytes.now ≤ vec_capacity kept.old }
+    ensures items { kept.new.items ≡ kept.old.items ++ bytes.now }
+    ensures capacity { vec_capacity kept.old ≤ vec_capacity kept.new }
+{
+    let _ = kept.extend_from_slice(bytes);
+}
