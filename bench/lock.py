@@ -15,7 +15,7 @@ import sys
 
 TOP = os.path.dirname(os.path.dirname(os.path.abspath(__file__)))
 SCRATCH = sys.argv[1] if len(sys.argv) > 1 else "/tmp/lock_bench"
-NEEDED = ("hex", "arc_core", "turn_lock")
+NEEDED = ("arc_core", "turn_lock")
 
 
 def read(path):
