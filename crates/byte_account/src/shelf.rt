@@ -230,22 +230,36 @@ impl<T: Weighs> Shelf<T> {
         let freed = self.list.evict(key, evictions as usize);
         refill(&mut self.list, &mut self.sticky, key, Some(item));
         self.total = self.total - freed - held.weight + weight;
-        self.sticky_total = self.sticky_total - sticky_part(held.weight, held.sticky) + sticky_part(weight, held.sticky);
+        self.sticky_total = self.sticky_total - sticky_part(held.weight, held.sticky)
+            + sticky_part(weight, held.sticky);
     }
 
     // Takes the key's place away and puts an item in a new one on the other side, behind so many evictions, which make room
     // for it. A refusal changes nothing.
-    fn put_across(&mut self, key: &[u8], item: T, held: Held, evictions: u64) -> Result<(), NoMemory>
+    fn put_across(
+        &mut self,
+        key: &[u8],
+        item: T,
+        held: Held,
+        evictions: u64,
+    ) -> Result<(), NoMemory>
         requires held { IsHeld (place_weight T.weigh) key.now self.old held }
         requires room { Some evictions ≡ option_map length (room_for (place_weight T.weigh) (not held.sticky) key.now (Some item) self.old) }
         ensures ok { OnOk result (self.new ≡ placed (not held.sticky) key.now (Some item) (evicted key.now evictions self.old)) }
         ensures err { OnErr result (self.new ≡ self.old) }
     {
         let weight = item.weight(key);
-        change_side(&mut self.list, &mut self.sticky, key, Some(item), !held.sticky)?;
+        change_side(
+            &mut self.list,
+            &mut self.sticky,
+            key,
+            Some(item),
+            !held.sticky,
+        )?;
         let freed = self.list.pop_many(evictions as usize);
         self.total = self.total - freed - held.weight + weight;
-        self.sticky_total = self.sticky_total - sticky_part(held.weight, held.sticky) + sticky_part(weight, !held.sticky);
+        self.sticky_total = self.sticky_total - sticky_part(held.weight, held.sticky)
+            + sticky_part(weight, !held.sticky);
         Ok(())
     }
 

@@ -289,7 +289,10 @@ fn accounts_and_evicts(rt: HostRuntime) -> Result<(), Fail> {
         )?,
         Room::Fits(0)
     );
-    assert_eq!(rt; (shelf.total(), shelf.room(b"d", 60, 0)), (60, Room::Fits(1)));
+    assert_eq!(rt;
+        (shelf.total(), shelf.room(b"d", 60, 0)),
+        (60, Room::Fits(1))
+    );
     assert_eq!(rt; shelf.room(b"d", 61, 0), Room::Nothing);
     assert_eq!(rt;
         put(

@@ -12,10 +12,10 @@ ghost use Rattle.cache_engine.specs.Acting.{Acts, Finishes, Answers};
 
 use crate::expiring::expiry_at;
 use crate::items::Items;
+use crate::key_state::{KeyState, key_state_of, live, put_and_use, set_expiry_and_use, use_key};
 use crate::plans::{Planned, plan_count, plan_store};
 use crate::retrieval::{read_and_use, rows_under};
 use crate::settings::Settings;
-use crate::key_state::{KeyState, set_expiry_and_use, live, put_and_use, key_state_of, use_key};
 use arc_core::{Act, Executor, KeyRef, KeyWords, NoMemory, Reply, Request, StoreVerb, Word};
 use byte_account::Put;
 use kv_items::KvItem;

@@ -90,12 +90,7 @@ pub fn put_and_use(
 ///
 /// `NoRoom` comes exactly where the sticky items would pass their share, and `NoMemory` only where the item gets to be
 /// sticky or is no longer so; then nothing has changed.
-pub fn set_expiry_and_use(
-    items: &mut Items,
-    latest: u32,
-    key: &KeyRef<'_>,
-    expiry: Expiry,
-) -> Put
+pub fn set_expiry_and_use(items: &mut Items, latest: u32, key: &KeyRef<'_>, expiry: Expiry) -> Put
     requires { IsUnder key.now items.old }
     ensures { SetsExpiryInStep latest key.now expiry items.old items.new result }
 {

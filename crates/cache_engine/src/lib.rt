@@ -13,13 +13,13 @@
 mod cache;
 mod expiring;
 mod items;
+mod key_state;
 mod laws;
 mod plans;
 mod puts;
-mod set_expiry;
 mod retrieval;
+mod set_expiry;
 mod settings;
-mod key_state;
 mod stored;
 
 pub use cache::Cache;

@@ -8,7 +8,7 @@ ghost use Rattle.kv_items.specs.PlainItem.{plain_item};
 ghost use Rattle.cache_engine.specs.Retrieving.{live_rows, some_late, AreLive, ReadsKey};
 
 use crate::items::Items;
-use crate::key_state::{drop_expired, live, key_state_of};
+use crate::key_state::{drop_expired, key_state_of, live};
 use arc_core::{Key, KeyRef, KeyWords, NoMemory, Seq, ValueRow};
 use kv_items::KvItem;
 use std::alloc::Global;

@@ -121,10 +121,7 @@ const LEAST: [Eviction; 12] = [
     ),
     (
         PLAIN,
-        &[
-            (1_000, Fill(Set, b"e", 0, WHOLE + 1), Says(OutOfMemory)),
-            E,
-        ],
+        &[(1_000, Fill(Set, b"e", 0, WHOLE + 1), Says(OutOfMemory)), E],
         4,
         b"bcde",
     ),
@@ -181,10 +178,7 @@ const LEAST: [Eviction; 12] = [
     ),
     (
         PLAIN,
-        &[
-            (1_000, Fill(Set, b"a", 0, WHOLE + 1), Says(OutOfMemory)),
-            E,
-        ],
+        &[(1_000, Fill(Set, b"a", 0, WHOLE + 1), Says(OutOfMemory)), E],
         4,
         b"bcde",
     ),
@@ -298,12 +292,7 @@ const LATE: [Eviction; 8] = [
     ),
     (
         PLAIN,
-        &[
-            (1_000, Fill(Set, b"c", -2, QUARTER), Says(Stored)),
-            E,
-            F,
-            G,
-        ],
+        &[(1_000, Fill(Set, b"c", -2, QUARTER), Says(Stored)), E, F, G],
         4,
         b"defg",
     ),

@@ -17,8 +17,11 @@ overflow_add-self-2 g c =
     let weigh = place_weight g.T.Weighs.weigh in
     let hollow = subst (λ p. found c.args.key.now p ≡ Some None) (sym c.self.view_is) c.requires.hollow in
     let share = subst (λ (p : Places _). HasShareFor (finite.contains_key p.sticky c.args.key.now) weigh p (g.T.Weighs.weigh c.args.key.now c.args.item)) (sym c.self.view_is) c.requires.share in
-    omega (arith, laid-le weigh c.args.key.now None (Some c.args.item) _ c.self.inside.sticky_total c.sticky_part.result c.self.invariant.1 c.self.invariant.0.once hollow refl share
-    (part_of _ _ _ _ c.sticky_part.result c.refill-taken.ensures.side c.weight-weight.ensures c.sticky_part.ensures))
+    omega (
+      arith,
+      laid-le weigh c.args.key.now None (Some c.args.item) _ c.self.inside.sticky_total c.sticky_part.result c.self.invariant.1 c.self.invariant.0.once hollow refl share
+          (part_of _ _ _ _ c.sticky_part.result c.refill-taken.ensures.side c.weight-weight.ensures c.sticky_part.ensures),
+    )
 
 pub invariant_of-self : goal.invariant_of-self
 invariant_of-self g c =
