@@ -1,10 +1,10 @@
 -- The places of a range's elements.
-use Rattle.std.proofs.Common.{◌≡◌, ◌⊎◌, ℕ, ◌+◌, ◌-◌, ◌<◌, ◌≤◌, Bool, true, false, not, ◌&&◌, cond, if◌then◌else◌, Option, None, List, [], ◌∷◌, ◌++◌, length, get_or, take, drop, max, refl, ap, sym, ◌∙◌, subst, inl, inr, arith}
+use Rattle.std.proofs.Common.{◌≡◌, ◌⊎◌, ℕ, ◌+◌, ◌-◌, ◌<◌, ◌≤◌, Bool, true, false, not, ◌&&◌, cond, if◌then◌else◌, None, List, [], ◌∷◌, ◌++◌, length, get_or, take, drop, max, refl, ap, sym, ◌∙◌, inl, inr, arith}
 use Rattle.std.specs.List.{All, between, filter}
 use Rattle.std.specs.Ordering.{is_lt, is_eq, is_gt, ordering_reverse}
 use Rattle.std.specs.declared.cmp.Ordering.{Ordering}
 use Rattle.std.specs.declared.cmp.Ordering.TheVariants.{Less, Equal, Greater}
-use Rattle.std.proofs.lemmas.Bool.{cases_eq, cases_lt}
+use Rattle.std.proofs.lemmas.Bool.{cases_lt}
 use Rattle.std.proofs.lemmas.List.{append-nil, length-take-le, length-drop, get_or-take, get_or-drop, get_or_default}
 use Rattle.std.proofs.lemmas.List.Edits.{split_between, length-between, get_or-between}
 use Rattle.std.proofs.lemmas.List.Elements.{All-head, All-tail, filter-append}
@@ -15,7 +15,7 @@ use Rattle.arc_core.specs.BkeyOrder.{bkey_cmp, is_down, is_in_range, lesser_end,
 use Rattle.arc_core.specs.TreeReading.{is_selected, selected}
 use Rattle.btree_scan.proofs.LeafLemmas.{as_many}
 use Rattle.arc_core.specs.BkeyLaws.{bkey_cmp_total}
-use Rattle.arc_core.specs.TreeContents.{IsRising, is_below, place_of}
+use Rattle.arc_core.specs.TreeContents.{IsRising, place_of}
 use Rattle.btree_nodes.specs.Ways.{has_bkey}
 use Rattle.btree_nodes.proofs.SearchLemmas.{bool_cases}
 use Rattle.btree_nodes.proofs.TreeLemmas.{IsPlace, place_splits, above_others}
@@ -79,16 +79,16 @@ equal Greater eq = cc eq
 pub there : (bkey : Bkey) (elements : List Elem) → IsRising elements → has_bkey bkey elements ≡ true → place_of bkey elements < length elements
 there bkey elements rising has =
     elim (cases_lt (place_of bkey elements) (length elements)) [
-      inl within ↦ within
-    | inr past ↦ let none = absent_at bkey elements (place_of bkey elements) rising refl (λ d within. absurd (omega arith)) in cc
+      | inl within ↦ within
+      | inr past ↦ let none = absent_at bkey elements (place_of bkey elements) rising refl (λ d within. absurd (omega arith)) in cc
     ]
 
 eq_there : (bkey : Bkey) (elements : List Elem) (d : Elem) → IsRising elements → has_bkey bkey elements ≡ true → is_eq (bkey_cmp bkey (get_or elements (place_of bkey elements) d).bkey) ≡ true
 eq_there bkey elements d rising has =
     elim (bool_cases (is_eq (bkey_cmp bkey (get_or elements (place_of bkey elements) d).bkey))) [
-      inl same ↦ same
-    | inr other ↦ let none = absent_at bkey elements (place_of bkey elements) rising refl
-        (λ e within. ap (λ (x : Elem). is_eq (bkey_cmp bkey x.bkey)) (get_or_default elements (place_of bkey elements) e d within) ∙ other) in cc
+      | inl same ↦ same
+      | inr other ↦ let none = absent_at bkey elements (place_of bkey elements) rising refl
+          (λ e within. ap (λ (x : Elem). is_eq (bkey_cmp bkey x.bkey)) (get_or_default elements (place_of bkey elements) e d within) ∙ other) in cc
     ]
 
 up_to_before : (bkey : Bkey) (elements : List Elem) (k : ℕ) (d : Elem) → IsRising elements → has_bkey bkey elements ≡ true → IsPlace bkey elements (place_of bkey elements) → (k < place_of bkey elements) ⊎ (place_of bkey elements ≤ k) → k < place_of bkey elements + 1
@@ -111,7 +111,7 @@ up_to_at bkey elements rising true has =
       within = omega arith;
       before = λ k d below. up_to_before bkey elements k d rising has at (cases_lt k p) below;
       behind = λ k d low within. let x = get_or elements p d in let y = get_or elements k d in
-        greater_by (bkey_cmp bkey y.bkey) (bkey_cmp y.bkey bkey) (bkey_cmp_total.antisymm y.bkey bkey)
+          greater_by (bkey_cmp bkey y.bkey) (bkey_cmp y.bkey bkey) (bkey_cmp_total.antisymm y.bkey bkey)
           (bkey_cmp_total.congr bkey x.bkey y.bkey (equal (bkey_cmp bkey x.bkey) (eq_there bkey elements d rising has)) ∙ (rising p k d (omega arith) within).below);
     }
 up_to_at bkey elements rising false has =
@@ -120,7 +120,7 @@ up_to_at bkey elements rising false has =
       within = omega (arith, at.within);
       before = λ k d below. lt_not_gt (bkey_cmp (get_or elements k d).bkey bkey) (at.before k d (omega arith));
       behind = λ k d low within. let y = get_or elements k d in
-        greater_by (bkey_cmp bkey y.bkey) (bkey_cmp y.bkey bkey) (bkey_cmp_total.antisymm y.bkey bkey) (above_others bkey elements k d has within (at.behind k d (omega arith) within));
+          greater_by (bkey_cmp bkey y.bkey) (bkey_cmp y.bkey bkey) (bkey_cmp_total.antisymm y.bkey bkey) (above_others bkey elements k d has within (at.behind k d (omega arith) within));
     }
 
 pub up_to : (bkey : Bkey) (elements : List Elem) → IsRising elements → IsUpTo bkey elements (number_up_to bkey elements)
@@ -142,11 +142,11 @@ are_places range elements rising =
       order = omega arith;
       within = omega (arith, from.within, to.within);
       elements_are = filter_between test elements low (max up low) (omega arith) (omega (arith, from.within, to.within))
-        (λ k d below. let x = (get_or elements k d).bkey in ap (λ g. not g && not (is_gt (bkey_cmp x (greater_end range)))) (back_lt (bkey_cmp x (lesser_end range)) (bkey_cmp (lesser_end range) x) (bkey_cmp_total.antisymm (lesser_end range) x) (from.before k d below)))
-        (λ k d behind below. let x = (get_or elements k d).bkey in
+          (λ k d below. let x = (get_or elements k d).bkey in ap (λ g. not g && not (is_gt (bkey_cmp x (greater_end range)))) (back_lt (bkey_cmp x (lesser_end range)) (bkey_cmp (lesser_end range) x) (bkey_cmp_total.antisymm (lesser_end range) x) (from.before k d below)))
+          (λ k d behind below. let x = (get_or elements k d).bkey in
           ap (λ g. not g && not (is_gt (bkey_cmp x (greater_end range)))) (back_not_lt (bkey_cmp x (lesser_end range)) (bkey_cmp (lesser_end range) x) (bkey_cmp_total.antisymm (lesser_end range) x) (from.behind k d behind (omega (arith, to.within, from.within))))
           ∙ ap (λ g. not g) (to.before k d (omega arith)))
-        (λ k d past within. let x = (get_or elements k d).bkey in
+          (λ k d past within. let x = (get_or elements k d).bkey in
           ap (λ g. not (is_gt (bkey_cmp (lesser_end range) x)) && not g) (to.behind k d (omega arith) within) ∙ and_false (not (is_gt (bkey_cmp (lesser_end range) x))));
     }
 
@@ -163,4 +163,4 @@ pub none_selected : (range : BkeyRange) (elements : List Elem) (low high : ℕ) 
 none_selected range elements low high places =
     let inside = filter (λ element. is_in_range range element.bkey) elements in
     sym (ap length (filter_every (is_selected None) (span (λ element. element.bkey) range elements) (λ k d within. refl))
-      ∙ (as_many (is_down range) inside ∙ (ap length places.elements_are ∙ length-between elements low high places.within)))
+    ∙ (as_many (is_down range) inside ∙ (ap length places.elements_are ∙ length-between elements low high places.within)))

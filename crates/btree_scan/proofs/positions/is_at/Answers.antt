@@ -1,4 +1,4 @@
-use Rattle.std.proofs.Common.{◌≡◌, false, true, ap, sym, ◌∙◌, arith, get_or, inl, inr}
+use Rattle.std.proofs.Common.{◌≡◌, ap, sym, ◌∙◌, arith, get_or, inl, inr}
 use Rattle.std.proofs.lemmas.List.{get_or_default}
 use Rattle.std.specs.Ordering.{is_eq}
 use Rattle.arc_core.specs.declared.trees.Elem.{Elem}
@@ -16,7 +16,7 @@ returns c =
     let elements = c.args.elements.now in
     let answer : c.is_eq.result ≡ is_eq (bkey_cmp c.args.bkey.now (get_or elements c.args.place x).bkey) = c.is_eq.ensures ∙ ap is_eq c.cmp.ensures in
     elim (bool_cases c.is_eq.result) [
-      inl found ↦ found ∙ sym (found_at c.args.bkey.now elements c.args.place x c.if-place-elements.false (sym answer ∙ found))
-    | inr other ↦ other ∙ sym (absent_at c.args.bkey.now elements c.args.place c.requires.rising c.requires.place
-        (λ d within. ap (λ (e : Elem). is_eq (bkey_cmp c.args.bkey.now e.bkey)) (get_or_default elements c.args.place d x within) ∙ (sym answer ∙ other)))
+      | inl found ↦ found ∙ sym (found_at c.args.bkey.now elements c.args.place x c.if-place-elements.false (sym answer ∙ found))
+      | inr other ↦ other ∙ sym (absent_at c.args.bkey.now elements c.args.place c.requires.rising c.requires.place
+          (λ d within. ap (λ (e : Elem). is_eq (bkey_cmp c.args.bkey.now e.bkey)) (get_or_default elements c.args.place d x within) ∙ (sym answer ∙ other)))
     ]
