@@ -1,6 +1,5 @@
 -- Whether a bkey is there, told by the element in its place.
-use Rattle.std.proofs.Common.{◌≡◌, ◌⊎◌, ℕ, ◌+◌, ◌-◌, ◌<◌, ◌≤◌, Bool, true, false, List, length, get_or, refl, ap, sym, ◌∙◌, subst, inl, inr, arith}
-use Rattle.std.specs.List.{list_any}
+use Rattle.std.proofs.Common.{◌≡◌, ◌⊎◌, ℕ, ◌<◌, ◌≤◌, true, false, List, length, get_or, ap, sym, ◌∙◌, subst, inl, inr, arith}
 use Rattle.std.specs.Ordering.{is_lt, is_eq, ordering_reverse}
 use Rattle.std.specs.declared.cmp.Ordering.{Ordering}
 use Rattle.std.specs.declared.cmp.Ordering.TheVariants.{Less, Equal, Greater}
@@ -11,9 +10,8 @@ use Rattle.arc_core.specs.declared.bkeys.Bkey.{Bkey}
 use Rattle.arc_core.specs.declared.trees.Elem.{Elem}
 use Rattle.arc_core.specs.BkeyOrder.{bkey_cmp}
 use Rattle.arc_core.specs.BkeyLaws.{bkey_cmp_total}
-use Rattle.arc_core.specs.TreeContents.{MayPrecede, IsRising, is_below, place_of}
+use Rattle.arc_core.specs.TreeContents.{IsRising, place_of}
 use Rattle.btree_nodes.specs.Ways.{has_bkey}
-use Rattle.btree_nodes.proofs.SearchLemmas.{less, bool_cases}
 use Rattle.btree_nodes.proofs.TreeLemmas.{IsPlace, place_splits}
 
 -- what is below the bkey does not have it

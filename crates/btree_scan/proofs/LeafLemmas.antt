@@ -1,5 +1,5 @@
 -- Elements that stand next to each other, within others that do.
-use Rattle.std.proofs.Common.{◌≡◌, ℕ, Bool, true, false, if◌then◌else◌, suc, ◌+◌, ◌-◌, ◌<◌, ◌≤◌, List, [], ◌∷◌, ◌++◌, length, get_or, take, drop, reverse, refl, ap, sym, ◌∙◌, subst, arith}
+use Rattle.std.proofs.Common.{◌≡◌, ℕ, Bool, true, false, if◌then◌else◌, suc, ◌+◌, ◌-◌, ◌<◌, ◌≤◌, List, [], ◌∷◌, ◌++◌, length, get_or, take, drop, reverse, refl, ap, sym, ◌∙◌, arith}
 use Rattle.std.specs.List.{between}
 use Rattle.std.proofs.lemmas.List.{length-append, length-drop, length-take-le, take_all, drop_more, drop-take, take-take, drop-drop, reverse-append, length-reverse}
 use Rattle.std.proofs.lemmas.List.Edits.{between_more, get_or-between, length-between}

@@ -1,10 +1,10 @@
 -- The places of a range's elements.
-use Rattle.std.proofs.Common.{◌≡◌, ◌⊎◌, ℕ, ◌+◌, ◌-◌, ◌<◌, ◌≤◌, Bool, true, false, not, ◌&&◌, cond, if◌then◌else◌, Option, None, List, [], ◌∷◌, ◌++◌, length, get_or, take, drop, max, refl, ap, sym, ◌∙◌, subst, inl, inr, arith}
+use Rattle.std.proofs.Common.{◌≡◌, ◌⊎◌, ℕ, ◌+◌, ◌-◌, ◌<◌, ◌≤◌, Bool, true, false, not, ◌&&◌, cond, if◌then◌else◌, None, List, [], ◌∷◌, ◌++◌, length, get_or, take, drop, max, refl, ap, sym, ◌∙◌, inl, inr, arith}
 use Rattle.std.specs.List.{All, between, filter}
 use Rattle.std.specs.Ordering.{is_lt, is_eq, is_gt, ordering_reverse}
 use Rattle.std.specs.declared.cmp.Ordering.{Ordering}
 use Rattle.std.specs.declared.cmp.Ordering.TheVariants.{Less, Equal, Greater}
-use Rattle.std.proofs.lemmas.Bool.{cases_eq, cases_lt}
+use Rattle.std.proofs.lemmas.Bool.{cases_lt}
 use Rattle.std.proofs.lemmas.List.{append-nil, length-take-le, length-drop, get_or-take, get_or-drop, get_or_default}
 use Rattle.std.proofs.lemmas.List.Edits.{split_between, length-between, get_or-between}
 use Rattle.std.proofs.lemmas.List.Elements.{All-head, All-tail, filter-append}
@@ -15,7 +15,7 @@ use Rattle.arc_core.specs.BkeyOrder.{bkey_cmp, is_down, is_in_range, lesser_end,
 use Rattle.arc_core.specs.TreeReading.{is_selected, selected}
 use Rattle.btree_scan.proofs.LeafLemmas.{as_many}
 use Rattle.arc_core.specs.BkeyLaws.{bkey_cmp_total}
-use Rattle.arc_core.specs.TreeContents.{IsRising, is_below, place_of}
+use Rattle.arc_core.specs.TreeContents.{IsRising, place_of}
 use Rattle.btree_nodes.specs.Ways.{has_bkey}
 use Rattle.btree_nodes.proofs.SearchLemmas.{bool_cases}
 use Rattle.btree_nodes.proofs.TreeLemmas.{IsPlace, place_splits, above_others}

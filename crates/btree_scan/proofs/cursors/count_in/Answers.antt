@@ -1,4 +1,4 @@
-use Rattle.std.proofs.Common.{◌≡◌, ◌-◌, ◌∙◌, ap, sym, length}
+use Rattle.std.proofs.Common.{◌∙◌, ap, sym, length}
 use Rattle.arc_core.specs.TreeReading.{selected}
 use Rattle.btree_scan.proofs.SpanLemmas.{none_selected}
 use Rattle.btree_scan.proofs.cursors.count_in.Goals as goal

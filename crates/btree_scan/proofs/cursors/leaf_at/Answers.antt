@@ -1,10 +1,8 @@
-use Rattle.std.proofs.Common.{◌≡◌, ◌+◌, ◌-◌, ◌<◌, ◌≤◌, ◌++◌, arith, ap, sym, ◌∙◌, subst, refl, length, get_or, take, drop}
+use Rattle.std.proofs.Common.{◌≡◌, ◌+◌, ◌-◌, ◌<◌, ◌++◌, arith, ap, sym, ◌∙◌, subst, length, get_or, take, drop}
 use Rattle.std.specs.List.{between}
 use Rattle.std.proofs.lemmas.List.{length-append}
-use Rattle.arc_core.specs.declared.trees.Elem.{Elem}
-use Rattle.btree_nodes.specs.declared.child.Part.{Part}
 use Rattle.btree_nodes.specs.Subtree.{Subtree, all_elements}
-use Rattle.btree_nodes.specs.PartRules.{elements_of, height_of, IsPart}
+use Rattle.btree_nodes.specs.PartRules.{elements_of, height_of}
 use Rattle.btree_nodes.proofs.ChildrenLemmas.{all_split}
 use Rattle.btree_scan.proofs.LeafLemmas.{middle_of_part}
 use Rattle.btree_scan.proofs.cursors.leaf_at.Goals as goal

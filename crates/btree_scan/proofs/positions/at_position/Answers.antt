@@ -1,9 +1,7 @@
 use Rattle.std.proofs.Common.{◌≡◌, ◌+◌, ◌<◌, ◌++◌, arith, ap, sym, ◌∙◌, subst, refl, length, get_or, take, drop}
 use Rattle.std.proofs.lemmas.Option.{slice_get_read}
-use Rattle.arc_core.specs.declared.trees.Elem.{Elem}
-use Rattle.btree_nodes.specs.declared.child.Part.{Part}
 use Rattle.btree_nodes.specs.Subtree.{Subtree, all_elements}
-use Rattle.btree_nodes.specs.PartRules.{elements_of, height_of, IsPart}
+use Rattle.btree_nodes.specs.PartRules.{elements_of, height_of}
 use Rattle.btree_nodes.proofs.ChildrenLemmas.{all_split}
 use Rattle.btree_nodes.proofs.MiddleLemmas.{get_middle}
 use Rattle.btree_scan.proofs.positions.at_position.Goals as goal

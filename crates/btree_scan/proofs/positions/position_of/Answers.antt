@@ -1,8 +1,8 @@
-use Rattle.std.proofs.Common.{◌≡◌, ◌+◌, ◌≤◌, arith, ap, sym, ◌∙◌, subst, length, get_or}
+use Rattle.std.proofs.Common.{◌≡◌, ◌+◌, arith, ap, sym, ◌∙◌, subst, length, get_or}
 use Rattle.arc_core.specs.TreeContents.{IsRising, place_of}
 use Rattle.btree_nodes.specs.declared.child.Part.{Part}
-use Rattle.btree_nodes.specs.Subtree.{Subtree, all_elements}
-use Rattle.btree_nodes.specs.PartRules.{elements_of, height_of, IsPart}
+use Rattle.btree_nodes.specs.Subtree.{Subtree}
+use Rattle.btree_nodes.specs.PartRules.{elements_of, height_of}
 use Rattle.btree_nodes.specs.Ways.{has_bkey}
 use Rattle.btree_nodes.proofs.WayLemmas.{each_some, rising_child}
 use Rattle.btree_nodes.proofs.ChildrenLemmas.{length_more, front_le}

@@ -1,6 +1,5 @@
 use Rattle.std.proofs.Common.{◌≡◌, ◌+◌, ◌≤◌, length}
 use Rattle.arc_core.specs.TreeContents.{IsRising, place_of}
-use Rattle.btree_nodes.specs.Contents.{MayBeHigh}
 use Rattle.btree_nodes.specs.PartRules.{elements_of, height_of, IsPart}
 use Rattle.btree_nodes.specs.Ways.{has_bkey}
 use Rattle.btree_scan.proofs.positions.position_of.Given as goal
