@@ -168,7 +168,7 @@ impl<T: Weighs> Shelf<T> {
     /// Puts an item under a key that has no place, which is the condition: among the sticky ones, or in front of the list.
     /// Room for it is made by the least eviction.
     ///
-    /// All memory is taken before anything is evicted. `NoMemory` comes for want of memory alone, `NoRoom` exactly where
+    /// All memory is taken before anything is evicted. `NoMemory` comes for want of memory alone, `NoRoom` only where
     /// there is no room; then nothing has changed. (This server's own rule.)
     pub fn put_new(&mut self, alloc: Global, key: &KeyRef<'_>, item: T, sticky: bool) -> Put
         requires { found key.now self.old ≡ None }
@@ -197,7 +197,7 @@ impl<T: Weighs> Shelf<T> {
     /// is not on the one that is named. Room for it is made by the least eviction.
     ///
     /// All memory is taken before anything is evicted, and none where the place stays on its side. `NoMemory` comes for
-    /// want of memory alone, `NoRoom` exactly where there is no room; then nothing has changed. (This server's own rule.)
+    /// want of memory alone, `NoRoom` only where there is no room; then nothing has changed. (This server's own rule.)
     pub fn replace(&mut self, key: &[u8], item: T, sticky: bool) -> Put
         requires { IsSome (found key.now self.old) }
         ensures { Puts (place_weight T.weigh) sticky key.now (Some item) self.old self.new result }

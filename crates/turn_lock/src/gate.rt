@@ -23,12 +23,14 @@ pub struct Gate {
 }
 
 impl Gate {
+    /// A gate that stands open. No clause says anything of a gate: who is behind it decides no turn.
     pub fn new() -> Gate {
         Gate {
             word: AtomicU64::new(OPEN),
         }
     }
 
+    /// Waits until the gate is open, and shuts it. No clause: that a thread was let in tells nothing of the table.
     pub fn enter<R: Wait>(&self, rt: &R) {
         if !self.slips_in() {
             self.wait(rt);
@@ -58,6 +60,7 @@ impl Gate {
         unreachable!()
     }
 
+    /// Opens the gate, and wakes one thread that waits for it, where one may. No clause, as for `enter`.
     pub fn leave(&self) {
         if self.word.swap(OPEN, SeqCst) == CROWDED {
             self.word.wake_one();
