@@ -132,8 +132,8 @@ fn eight_threads_get_each_answer_once(rt: HostRuntime) -> Result<(), Fail> {
 }
 
 #[test]
-fn sixty_four_threads_end(rt: HostRuntime) -> Result<(), Fail> {
-    assert!(rt; share(&rt, rt.alloc(), 64, 200)?);
+fn sixty_four_threads_get_each_answer_once(rt: HostRuntime) -> Result<(), Fail> {
+    assert!(rt; share(&rt, rt.alloc(), 64, 10_000)?);
     Ok(())
 }
 

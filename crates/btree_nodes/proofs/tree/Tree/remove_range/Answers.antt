@@ -7,8 +7,8 @@ use Rattle.btree_nodes.specs.Removal.{IsRun}
 use Rattle.btree_nodes.proofs.RunLemmas.{removed_more, between_more, between_both}
 use Rattle.btree_nodes.proofs.tree.Tree.remove_range.Goals as goal
 
-pub loop-left-preserved : goal.loop-left-preserved
-loop-left-preserved c =
+pub loop-left-preserved-in-loop-left : goal.loop-left-preserved-in-loop-left
+loop-left-preserved-in-loop-left c =
     let xs = c.args.self.now.elements in
     let low = c.args.low in
     let i = c.loop-left.invariant in
