@@ -7,4 +7,4 @@ use Rattle.arcus_tool.specs.declared.status.Status.TheVariants as status
 -- memory for the words was refused; or a word is no text
 abbrev pub refusal_of : ErrorKind → Status
 refusal_of OutOfMemory = status.NoMemory
-refusal_of other = status.BadWords 0
+refusal_of _ = status.BadWords 0
