@@ -58,10 +58,11 @@ abbrev pub insert_plan : ℤ → ℕ → ℕ → Action → ListPlan
 insert_plan index n maxcount action = plan_at index n maxcount action (insert_place index n)
 
 -- A plan keeps the limit: a stored element's place is one of the list's, or the one behind its last, and the list has
--- room for one more element or an old one to trim.
+-- room for one more element or trims an old one at an end.
 abbrev pub KeepsLimit : ℕ → ℕ → ListPlan → Type 0
 KeepsLimit n maxcount (Store place) = (place ≤ n) × (n < maxcount)
-KeepsLimit n maxcount (StoreAndTrim place side) = (place ≤ n) × (1 ≤ n)
+KeepsLimit n maxcount (StoreAndTrim place Low) = (1 ≤ place) × (place ≤ n)
+KeepsLimit n maxcount (StoreAndTrim place High) = place < n
 KeepsLimit n maxcount _ = Unit {0}
 
 -- Worked: a list of five elements, full at five, that trims its tail.

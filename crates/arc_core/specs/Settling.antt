@@ -1,11 +1,11 @@
 -- What an insert of a new bkey leaves of a tree that is full or whose bkeys are bounded. (Overflow actions and maxbkeyrange
 -- are ARCUS's; which of them trim and which refuse a bkey beyond maxbkeyrange, and that this comes first, is this server's
 -- own.)
-use Rattle.std.specs.Prelude.{ℕ, ◌+◌, ◌-◌, nat_lt, ◌==◌, Bool, true, false, not, ◌&&◌, if◌then◌else◌, List, [], ◌∷◌, length, map, filter, fold, slice_index_or, Option, Some, None}
+use Rattle.std.specs.Prelude.{ℕ, ◌+◌, ◌-◌, nat_lt, ◌==◌, Bool, true, false, not, ◌&&◌, if◌then◌else◌, List, [], ◌∷◌, length, map, filter, fold, slice_index_or, Option, Some}
 use Rattle.std.specs.Option.{option_map_or}
 use Rattle.std.specs.Ordering.{is_lt, is_gt, is_eq}
 use Rattle.arc_core.specs.declared.bkeys.Bkey.{Bkey}
-use Rattle.arc_core.specs.declared.bkeys.Bkey.TheVariants.{Number, Bytes}
+use Rattle.arc_core.specs.declared.bkeys.Bkey.TheVariants.{Number}
 use Rattle.arc_core.specs.declared.collections.Action.{Action}
 use Rattle.arc_core.specs.declared.collections.Action.TheVariants as action
 use Rattle.arc_core.specs.declared.collections.Side.{Side}

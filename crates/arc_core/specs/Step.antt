@@ -14,7 +14,8 @@ use Rattle.arc_core.specs.declared.replies.Word.TheVariants as word
 use Rattle.arc_core.specs.declared.replies.ValueRow.{ValueRow}
 use Rattle.arc_core.specs.PlainRequest.{PlainAct, PlainRequest, store, get, count, delete, touch, flush_all, version}
 use Rattle.arc_core.specs.Words.{number_below}
-use Rattle.arc_core.specs.Item.{Item, key_value, size_of, expiry_of, with_expiry, expiry_at, has_expired, is_sticky}
+use Rattle.arc_core.specs.Plan.{Plan, answer_only, put, take_away, take_all}
+use Rattle.arc_core.specs.Item.{Item, key_value, collection, size_of, expiry_of, with_expiry, expiry_at, has_expired, is_sticky}
 use Rattle.arc_core.specs.Places.{Places, empty_places, found, placed, brought_to_front, without}
 use Rattle.arc_core.specs.Room.{room, evicted}
 use Rattle.arc_core.specs.CacheState.{CacheState}
@@ -48,17 +49,6 @@ started state now keys =
 
 -- THE TABLE
 
--- What a row of the table wants done.
-pub data Plan : Type 0 where
-  -- to answer, and leave all items as they are
-  answer_only : Reply → Plan
-  -- to put an item under the key, let the cas counter be this, and answer
-  put : (key : List ℕ) → Item → (counter : ℕ) → Reply → Plan
-  -- to take the item under the key away, and answer
-  take_away : (key : List ℕ) → Reply → Plan
-  -- to take all items away, and answer
-  take_all : Reply → Plan
-
 -- the counter's next value: it begins again at 1
 abbrev pub next_unique : ℕ → ℕ
 next_unique n = if n == 2 ^ 64 - 1 then 1 else n + 1
@@ -74,8 +64,9 @@ put_joined state key flags expiry value =
     if nat_lt 1048576 (length value) then answer_only (reply.Word word.TooLarge)
     else put_value state key flags expiry value (reply.Word word.Stored)
 
--- the rows of the storing commands, by the item under the key
+-- the rows of the storing commands, by the item under the key. A collection is of another kind.
 abbrev pub plan_of_store : CacheState → StoreVerb → List ℕ → ℕ → ℤ → List ℕ → Option Item → Plan
+plan_of_store state verb key flags exptime value (Some (collection attrs contents)) = answer_only (reply.Word word.TypeMismatch)
 plan_of_store state verb.Set key flags exptime value held = put_value state key flags (expiry_at state.latest exptime) value (reply.Word word.Stored)
 plan_of_store state verb.Add key flags exptime value None = put_value state key flags (expiry_at state.latest exptime) value (reply.Word word.Stored)
 plan_of_store state verb.Add key flags exptime value (Some item) = answer_only (reply.Word word.NotStored)
@@ -109,11 +100,12 @@ abbrev pub plan_of_next : CacheState → Bool → List ℕ → ℕ → ℕ → E
 plan_of_next state up key delta flags expiry None = answer_only (reply.Word word.NotNumeric)
 plan_of_next state up key delta flags expiry (Some n) = put_number state key flags expiry (counted up delta n)
 
--- the rows of the counting commands, `incr` and `decr`, by the item under the key
+-- the rows of the counting commands, `incr` and `decr`, by the item under the key. A collection is of another kind.
 abbrev pub plan_of_count : CacheState → Bool → List ℕ → ℕ → Option (ℕ × ℤ × ℕ) → Option Item → Plan
 plan_of_count state up key delta initial None = plan_of_first state key initial
 plan_of_count state up key delta initial (Some (key_value flags expiry unique value)) =
     plan_of_next state up key delta flags expiry (number_below (2 ^ 64) value)
+plan_of_count state up key delta initial (Some (collection attrs contents)) = answer_only (reply.Word word.TypeMismatch)
 
 -- the row of `delete`, by the item under the key
 abbrev pub plan_of_delete : List ℕ → Option Item → Plan
@@ -125,15 +117,16 @@ abbrev pub plan_of_touch : CacheState → List ℕ → ℤ → Option Item → P
 plan_of_touch state key exptime None = answer_only (reply.Word word.NotFound)
 plan_of_touch state key exptime (Some item) = put key (with_expiry (expiry_at state.latest exptime) item) state.counter (reply.Word word.Touched)
 
--- the row that a held item answers
-abbrev pub row_of_item : Bool → List ℕ → Item → ValueRow
-row_of_item unique key (key_value flags expiry number value) =
-    record { key = key; flags = flags; unique = if unique then Some number else None; value = value }
+-- the rows that a held item answers to a retrieval: one for a key-value item. A collection is passed over.
+abbrev pub rows_of_item : Bool → List ℕ → Item → List ValueRow
+rows_of_item unique key (key_value flags expiry number value) =
+    record { key = key; flags = flags; unique = if unique then Some number else None; value = value } ∷ []
+rows_of_item unique key (collection attrs contents) = []
 
--- a row for each key under which an item is held, in the keys' order
+-- the rows of the items under the keys, in the keys' order
 abbrev pub rows_of : Bool → Places Item → List (List ℕ) → List ValueRow
 rows_of unique places [] = []
-rows_of unique places (key ∷ keys) = option_map_or (λ item. row_of_item unique key item ∷ rows_of unique places keys) (found key places) (rows_of unique places keys)
+rows_of unique places (key ∷ keys) = option_map_or (rows_of_item unique key) (found key places) [] ++ rows_of unique places keys
 
 -- the row of the table
 abbrev pub plan_of : CacheState → PlainAct → Plan

@@ -1,6 +1,6 @@
 -- What a read of a tree selects, and whether what was trimmed from the tree lies within it. (Ranges, filters, offset and
 -- count are the ARCUS protocol's; the trimmed zone is this server's own.)
-use Rattle.std.specs.Prelude.{ℕ, zero, suc, ◌+◌, ◌-◌, Bool, true, false, not, ◌||◌, List, [], ◌∷◌, length, take, drop, filter, slice_get, Option, Some, None, is_some}
+use Rattle.std.specs.Prelude.{ℕ, zero, suc, ◌+◌, ◌-◌, Bool, true, false, not, ◌||◌, List, length, take, drop, filter, slice_get, Option, None, is_some}
 use Rattle.std.specs.Option.{option_map_or}
 use Rattle.std.specs.Ordering.{is_lt, is_gt}
 use Rattle.arc_core.specs.declared.bkeys.Bkey.{Bkey}

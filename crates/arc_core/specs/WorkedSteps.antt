@@ -7,9 +7,10 @@ use Rattle.arc_core.specs.declared.replies.Word.TheVariants as word
 use Rattle.arc_core.specs.Item.{Item, key_value}
 use Rattle.arc_core.specs.Places.{empty_places}
 use Rattle.arc_core.specs.CacheState.{CacheState}
-use Rattle.arc_core.specs.Step.{sticky_extra_of, answer_only, put, take_away, plan_of_store, plan_of_count, plan_of_delete, plan_of_touch, next_unique}
+use Rattle.arc_core.specs.Step.{sticky_extra_of, plan_of_store, plan_of_count, plan_of_delete, plan_of_touch, next_unique}
+use Rattle.arc_core.specs.Plan.{answer_only, put, take_away}
 use Rattle.arc_core.specs.Words.{number_below}
-use Rattle.arc_core.specs.Room.{shortest_suffix, fits, share_fits}
+use Rattle.arc_core.specs.Room.{shortest_suffix, fits}
 
 -- a state at second 1,000 in which 6 values were stored
 abbrev at : CacheState

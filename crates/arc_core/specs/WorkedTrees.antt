@@ -1,16 +1,14 @@
 -- Worked examples of inserts into trees, and of reads beside what was trimmed, that compute.
-use Rattle.std.specs.Prelude.{◌≡◌, ℕ, true, false, Bool, List, [], ◌∷◌, map, codes, Option, Some, None, refl}
-use Rattle.arc_core.specs.declared.bkeys.Bkey.{Bkey}
+use Rattle.std.specs.Prelude.{◌≡◌, ℕ, true, false, List, [], ◌∷◌, codes, Some, None, refl}
 use Rattle.arc_core.specs.declared.bkeys.Bkey.TheVariants.{Number, Bytes}
 use Rattle.arc_core.specs.declared.bkeys.BkeyRange.{BkeyRange}
 use Rattle.arc_core.specs.declared.filters.CompOp.TheVariants as comp
-use Rattle.arc_core.specs.declared.filters.Filter.{Filter}
 use Rattle.arc_core.specs.declared.collections.Action.TheVariants as action
 use Rattle.arc_core.specs.declared.collections.Side.TheVariants.{Low, High}
 use Rattle.arc_core.specs.declared.trees.Elem.{Elem}
 use Rattle.arc_core.specs.declared.trees.Edges.{Edges}
 use Rattle.arc_core.specs.declared.trees.TreeRead.{TreeRead}
-use Rattle.arc_core.specs.TreeContents.{place_of, with_element, elem_sizes}
+use Rattle.arc_core.specs.TreeContents.{place_of, elem_sizes}
 use Rattle.arc_core.specs.TreeReading.{selected, chosen, covered_range, meets_zone, keeps_edge}
 use Rattle.arc_core.specs.Settling.{stored, out_of_range, overflowed, settled, settled_edges}
 

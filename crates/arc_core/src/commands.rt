@@ -116,10 +116,7 @@ impl<'a> Head<'a> {
     pub fn is_silent(&self) -> bool
         ensures { result ≡ is_silent self.now.answer }
     {
-        match self.answer {
-            Answer::Plain => false,
-            Answer::NoReply => true,
-        }
+        self.answer.is_silent()
     }
 
     /// The request of this head, which may not be `quit`, and the block that follows its line. It borrows both.

@@ -5,7 +5,7 @@
 //! |---|---|
 //! | bytes that items are made of | `keys`, `values`, `short_bytes`, `bkeys`, `seqs`; `limits` for those of a cache as a whole |
 //! | words of a line, and the numbers among them | `word_lists`, `numbers` |
-//! | what a client asks | `commands` (a line), `requests` (with its block), `collections`, `filters`, `trees`, `attributes`, `lists` |
+//! | what a client asks | `commands` and `coll_commands` (a line), `requests` (with its block), `collections`, `filters`, `trees`, `attributes`, `lists` |
 //! | what it is answered | `replies`, `rows`, `items`, `faults`, `ends` |
 //! | what is outside, and objects in memory that play it | `outside`, `memory`, `links`, `clocks` |
 //! | who executes requests | `machine` |
@@ -14,6 +14,7 @@
 mod attributes;
 mod bkeys;
 mod clocks;
+mod coll_commands;
 mod collections;
 mod commands;
 mod ends;
@@ -43,6 +44,7 @@ pub use attributes::{
 };
 pub use bkeys::{Bkey, BkeyRange};
 pub use clocks::ListClock;
+pub use coll_commands::{CollCommand, CollHead, CollName};
 pub use collections::{Action, IndexRange, Kind, Side, Take};
 pub use commands::{BlockFault, Command, CommandName, Head};
 pub use ends::End;

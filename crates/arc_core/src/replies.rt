@@ -1,6 +1,6 @@
 //! Replies: what the cache answers to a request.
 
-use crate::{Key, Seq, Value};
+use crate::{Key, Row, Seq, Tail, Value};
 
 /// A reply, or an answer of the session, that is one line of fixed text.
 #[derive(Clone, Copy, Debug, PartialEq, Eq)]
@@ -37,6 +37,32 @@ pub enum Word {
     BadChunk,
     /// The line has no end within 65,536 bytes.
     LineTooLong,
+    /// The collection was made.
+    Created,
+    /// The collection was made, and the element stored in it.
+    CreatedStored,
+    /// The item under the key is of another kind.
+    TypeMismatch,
+    /// The collection is not readable.
+    Unreadable,
+    /// The collection is full, and none of its elements makes room.
+    Overflowed,
+    /// The index or the bkey is outside what the collection can hold.
+    OutOfRange,
+    /// The collection has no such element.
+    NotFoundElement,
+    /// The collection has this element.
+    ElementExists,
+    /// The value is in the set.
+    Exist,
+    /// The value is not in the set.
+    NotExist,
+    /// The element has the new value.
+    Updated,
+    /// The element had another value, and has the new one.
+    Replaced,
+    /// The elements are gone, and so is the collection, which they left empty.
+    DeletedDropped,
 }
 
 /// An item that a `get` answers: its key, client flags, cas unique where it was asked for, and value.
@@ -57,4 +83,10 @@ pub enum Reply {
     Number(u64),
     /// The items that were found, in the request's order.
     Values(Seq<ValueRow>),
+    /// Elements of a collection, with its client flags.
+    Rows {
+        flags: u32,
+        rows: Seq<Row>,
+        tail: Tail,
+    },
 }

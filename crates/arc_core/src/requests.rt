@@ -1,5 +1,8 @@
 //! Requests: what a client asks of the cache, borrowed from its line and block.
 
+ghost use Rattle.std.specs.Prelude.{◌≡◌};
+ghost use Rattle.arc_core.specs.Grammar.{is_silent};
+
 use crate::{KeyRef, KeyWords};
 
 /// How the answer to a request is sent.
@@ -9,6 +12,18 @@ pub enum Answer {
     Plain,
     /// Not at all. (memcached's `noreply`.)
     NoReply,
+}
+
+impl Answer {
+    /// Whether no answer is sent.
+    pub fn is_silent(self) -> bool
+        ensures { result ≡ is_silent self }
+    {
+        match self {
+            Answer::Plain => false,
+            Answer::NoReply => true,
+        }
+    }
 }
 
 /// How a value is stored under its key.

@@ -8,11 +8,12 @@ use Rattle.arc_core.specs.declared.replies.Reply.{Reply}
 use Rattle.arc_core.specs.declared.replies.Reply.TheVariants as reply
 use Rattle.arc_core.specs.declared.replies.Word.TheVariants as word
 use Rattle.arc_core.specs.PlainRequest as act
-use Rattle.arc_core.specs.Item.{Item, key_value, size_of, expiry_of, with_expiry, expiry_at, has_expired, is_sticky}
+use Rattle.arc_core.specs.Item.{Item, key_value, collection, size_of, expiry_of, with_expiry, expiry_at, has_expired, is_sticky}
 use Rattle.arc_core.specs.Places.{Places, found, brought_to_front, placed, without, total_of}
 use Rattle.arc_core.specs.Room.{room, evicted}
 use Rattle.arc_core.specs.CacheState.{CacheState}
-use Rattle.arc_core.specs.Step.{Plan, room_for, put_behind, plan_of_store, plan_of_count, plan_of_delete, plan_of_touch, carried_out, ended}
+use Rattle.arc_core.specs.Step.{room_for, put_behind, plan_of_store, plan_of_count, plan_of_delete, plan_of_touch, carried_out, ended}
+use Rattle.arc_core.specs.Plan.{Plan}
 use Rattle.byte_account.proofs.FoundLaws.{found-placed, found-without}
 use Rattle.byte_account.proofs.MovedLaws.{evicted-none}
 use Rattle.cache_engine.specs.declared.plans.Planned.{Planned}
@@ -138,6 +139,7 @@ module _ (old : CacheState) (now : ℕ) (key : List ℕ) (live : IsLive (max old
 module _ (latest : ℕ) (key : List ℕ) (expiry : Expiry) (old new : Places Item) (h : HasExpiry key expiry old new) where
   expiry_is : (item : Item) → expiry_of (with_expiry expiry item) ≡ expiry
   expiry_is (key_value flags was unique value) = refl
+  expiry_is (collection attrs contents) = refl
 
   put_is : put_behind 0 key (with_expiry expiry h.item) old ≡ new
   put_is = (λ i. placed (sticky_stays expiry h.item i) key (with_expiry expiry h.item) (evicted-none key old i)) ∙ sym h.places

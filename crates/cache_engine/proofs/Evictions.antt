@@ -10,10 +10,11 @@ use Rattle.arc_core.specs.declared.replies.Word.TheVariants as word
 use Rattle.arc_core.specs.PlainRequest.{PlainAct, PlainRequest}
 use Rattle.arc_core.specs.PlainRequest as act
 use Rattle.arc_core.specs.Words.{number_below}
-use Rattle.arc_core.specs.Item.{Item, key_value, size_of, expiry_of, is_sticky}
+use Rattle.arc_core.specs.Item.{Item, key_value, collection, size_of, expiry_of, is_sticky}
 use Rattle.arc_core.specs.Places.{placed, total_of}
 use Rattle.arc_core.specs.CacheState.{CacheState, IsState}
-use Rattle.arc_core.specs.Step.{Plan, answer_only, put, take_away, take_all, extra_of, sticky_extra_of, room_for, put_behind, carried_out, ended, named_keys, started, step, put_joined, plan_of_store, plan_of_next, plan_of_count, plan_of_delete, plan_of_touch, plan_of}
+use Rattle.arc_core.specs.Step.{extra_of, sticky_extra_of, room_for, put_behind, carried_out, ended, named_keys, started, step, put_joined, plan_of_store, plan_of_next, plan_of_count, plan_of_delete, plan_of_touch, plan_of}
+use Rattle.arc_core.specs.Plan.{Plan, answer_only, put, take_away, take_all}
 use Rattle.byte_account.specs.declared.room.Room.TheVariants.{Fits, Nothing}
 use Rattle.byte_account.specs.ShelfWords.{room_answer}
 use Rattle.byte_account.proofs.RoomLaws.{IsLeastEviction-room, room-nothing_added, fits_nothing_added}
@@ -88,11 +89,13 @@ module _ (state : CacheState) (key : List ℕ) where
 
   store-is_other : (verb : StoreVerb) (flags : ℕ) (exptime : ℤ) (value : List ℕ) (held : Option Item) → IsOther (plan_of_store state verb key flags exptime value held)
   unfolding says IsOther
-  store-is_other verb.Set flags exptime value held = λ e. absurd (cc)
+  store-is_other verb flags exptime value (Some (collection attrs contents)) = λ e. absurd (cc)
+  store-is_other verb.Set flags exptime value None = λ e. absurd (cc)
+  store-is_other verb.Set flags exptime value (Some (key_value old expiry unique was)) = λ e. absurd (cc)
   store-is_other verb.Add flags exptime value None = λ e. absurd (cc)
-  store-is_other verb.Add flags exptime value (Some item) = λ e. absurd (cc)
+  store-is_other verb.Add flags exptime value (Some (key_value old expiry unique was)) = λ e. absurd (cc)
   store-is_other verb.Replace flags exptime value None = λ e. absurd (cc)
-  store-is_other verb.Replace flags exptime value (Some item) = λ e. absurd (cc)
+  store-is_other verb.Replace flags exptime value (Some (key_value old expiry unique was)) = λ e. absurd (cc)
   store-is_other verb.Append flags exptime value None = λ e. absurd (cc)
   store-is_other verb.Append flags exptime value (Some (key_value old expiry unique was)) = joined-is_other old expiry _
   store-is_other verb.Prepend flags exptime value None = λ e. absurd (cc)
@@ -110,6 +113,7 @@ module _ (state : CacheState) (key : List ℕ) where
   count-is_other up delta None None = λ e. absurd (cc)
   count-is_other up delta (Some initial) None = λ e. absurd (cc)
   count-is_other up delta initial (Some (key_value flags expiry unique value)) = next-is_other up delta flags expiry (number_below (2 ^ 64) value)
+  count-is_other up delta initial (Some (collection attrs contents)) = λ e. absurd (cc)
 
   delete-is_other : (held : Option Item) → IsOther (plan_of_delete key held)
   unfolding says IsOther

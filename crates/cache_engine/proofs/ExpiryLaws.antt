@@ -5,7 +5,7 @@ use Rattle.std.specs.Bool.{beq}
 use Rattle.std.specs.Option.{option_flatten, option_map_or}
 use Rattle.std.specs.FinMap as finite
 use Rattle.arc_core.specs.declared.items.Expiry.{Expiry}
-use Rattle.arc_core.specs.Item.{Item, key_value, size_of, is_sticky, with_expiry}
+use Rattle.arc_core.specs.Item.{Item, key_value, collection, size_of, is_sticky, with_expiry}
 use Rattle.arc_core.specs.Places.{Places, HasEachKeyOnce, found, placed, refilled, total_of, sticky_total_of}
 use Rattle.arc_core.specs.Room.{share_fits, room}
 use Rattle.byte_account.specs.declared.room.Room.{Room}
@@ -30,6 +30,7 @@ use Rattle.cache_engine.proofs.Holding.{once, held, held_on}
 -- an expiry has no size
 size_stays : (key : List ℕ) (expiry : Expiry) (item : Item) → size_of key (with_expiry expiry item) ≡ size_of key item
 size_stays key expiry (key_value flags old unique value) = refl
+size_stays key expiry (collection attrs contents) = refl
 
 same_item : (o : Option (Option Stored)) (was item : Stored) → o ≡ Some (Some was) → Some item ≡ option_flatten o → item ≡ was
 same_item o was item h k = let e : ◌≡◌ {A = Option Stored} (Some item) (Some was) = k ∙ ap option_flatten h in cc

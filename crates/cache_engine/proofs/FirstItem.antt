@@ -10,7 +10,8 @@ use Rattle.arc_core.specs.Item.{Item, size_of, expiry_of, is_sticky}
 use Rattle.arc_core.specs.Places.{Places, empty_places, found, placed, total_of, sticky_total_of}
 use Rattle.arc_core.specs.Room.{room, shortest_suffix, fits, share_fits, least_eviction, evicted}
 use Rattle.arc_core.specs.CacheState.{opening_state}
-use Rattle.arc_core.specs.Step.{sticky_size, put, started, without_expired, carried_out, put_behind, ended}
+use Rattle.arc_core.specs.Step.{sticky_size, started, without_expired, carried_out, put_behind, ended}
+use Rattle.arc_core.specs.Plan.{put}
 use Rattle.byte_account.proofs.StickySums.{remove-absent}
 use Rattle.byte_account.proofs.AccountingLaws.{IsAccounted-empty, weight-empty}
 use Rattle.cache_engine.specs.Planning.{state_at}

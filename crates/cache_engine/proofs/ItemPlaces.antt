@@ -6,7 +6,7 @@ use Rattle.std.specs.Map.{lookup}
 use Rattle.std.specs.FinMap as finite
 use Rattle.std.proofs.lemmas.List.{length-map}
 use Rattle.arc_core.specs.declared.items.Expiry.{Expiry}
-use Rattle.arc_core.specs.Item.{Item, key_value, IsItem, size_of, expiry_of, is_sticky, with_expiry}
+use Rattle.arc_core.specs.Item.{Item, key_value, collection, IsItem, size_of, expiry_of, is_sticky, with_expiry}
 use Rattle.arc_core.specs.Places.{Places, HasEachKeyOnce, empty_places, found, count_of, total_of, sticky_total_of, brought_to_front, placed, without}
 use Rattle.arc_core.specs.Room.{room, evicted}
 use Rattle.arc_core.specs.Step.{sticky_size, put_behind}
@@ -194,13 +194,17 @@ put_leaves key item old new put.NoMemory holds h =
 
 pub stays_item : (expiry : Expiry) (item : Item) → IsItem item → IsItem (with_expiry expiry item)
 stays_item expiry (key_value flags old unique value) ok = ok
+stays_item expiry (collection attrs contents) ok =
+    record { elements = ok.elements; action = ok.action; within = ok.within; least = ok.least; most = ok.most; no_bkeys = ok.no_bkeys }
 
 pub sticky_stays : (expiry : Expiry) (item : Item) → is_sticky (expiry_of (with_expiry expiry item)) ≡ is_sticky expiry
 sticky_stays expiry (key_value flags old unique value) = refl
+sticky_stays expiry (collection attrs contents) = refl
 
 -- an expiry has no size
 size_stays : (key : List ℕ) (expiry : Expiry) (item : Item) → size_of key (with_expiry expiry item) ≡ size_of key item
 size_stays key expiry (key_value flags old unique value) = refl
+size_stays key expiry (collection attrs contents) = refl
 
 nothing_added : (n : ℕ) → pos n -ℤ pos n ≡ pos 0
 nothing_added n = omega (arith, ints)

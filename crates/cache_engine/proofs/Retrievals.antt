@@ -1,5 +1,5 @@
 -- What retrievals answer and leave, as steps of the machine.
-use Rattle.std.proofs.Common.{◌≡◌, ◌<◌, ◌^◌, ℕ, Bool, true, false, cond, ◌||◌, max, List, [], ◌∷◌, length, Option, Some, None, bytes_eq, inl, refl, sym, ap, ◌∙◌, subst}
+use Rattle.std.proofs.Common.{◌≡◌, ◌<◌, ◌^◌, ℕ, Bool, true, false, cond, ◌||◌, max, List, [], ◌∷◌, ◌++◌, length, Option, Some, None, bytes_eq, inl, refl, sym, ap, ◌∙◌, subst}
 use Rattle.std.proofs.lemmas.Bool.{or_right, or_parts}
 use Rattle.std.specs.Option.{option_map_or}
 use Rattle.arc_core.specs.declared.replies.ValueRow.{ValueRow}
@@ -8,7 +8,7 @@ use Rattle.arc_core.specs.PlainRequest as act
 use Rattle.arc_core.specs.Item.{Item, expiry_of, has_expired}
 use Rattle.arc_core.specs.Places.{Places, found, brought_to_front, without}
 use Rattle.arc_core.specs.CacheState.{CacheState, ArePlaced}
-use Rattle.arc_core.specs.Step.{unexpired, without_expired, used, used_at, row_of_item, rows_of}
+use Rattle.arc_core.specs.Step.{unexpired, without_expired, used, used_at, rows_of_item, rows_of}
 use Rattle.byte_account.proofs.ShelfLists.{own_key, same_key}
 use Rattle.byte_account.proofs.FoundLaws.{found-brought_to_front, found-without_apart, touched-absent}
 use Rattle.cache_engine.specs.Starting.{live_of}
@@ -101,7 +101,7 @@ module _ (latest : ℕ) where
   rows_by unique start places [] same = refl
   rows_by unique start places (key ∷ keys) same =
       let rest = rows_by unique start places keys (λ q among. same q (or_right (bytes_eq q key) (is_among q keys) among)) in
-      λ i. option_map_or (λ item. row_of_item unique key item ∷ rest i) (same key (ap (λ b. b || is_among key keys) (own_key key)) i) (rest i)
+      λ i. option_map_or (rows_of_item unique key) (same key (ap (λ b. b || is_among key keys) (own_key key)) i) [] ++ rest i
 
   -- the rows of what is held at the start of a step
   pub rows_live : (unique : Bool) (keys : List (List ℕ)) (places : Places Item) → rows_of unique (unexpired latest keys places) keys ≡ live_rows unique latest places keys

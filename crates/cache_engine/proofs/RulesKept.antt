@@ -15,11 +15,12 @@ use Rattle.arc_core.specs.Words.{words, number_below, keys_counted}
 use Rattle.arc_core.specs.declared.commands.Command.{Command}
 use Rattle.arc_core.specs.declared.commands.Command.TheVariants as command
 use Rattle.arc_core.specs.Grammar.{act_of, IsBlockFor, CanBeSpelled}
-use Rattle.arc_core.specs.Item.{Item, key_value, IsItem, size_of, expiry_of, expiry_at, is_sticky, has_expired}
+use Rattle.arc_core.specs.Item.{Item, key_value, collection, IsItem, size_of, expiry_of, expiry_at, is_sticky, has_expired}
 use Rattle.arc_core.specs.Places.{Places, empty_places, found, brought_to_front, placed, without, total_of, sticky_total_of}
 use Rattle.arc_core.specs.Room.{room, evicted}
 use Rattle.arc_core.specs.CacheState.{CacheState, IsState, ArePlaced}
-use Rattle.arc_core.specs.Step.{Plan, answer_only, put, take_away, take_all, extra_of, sticky_size, room_for, put_behind, carried_out, ended, named_keys, started, step, unexpired, without_expired, used, used_at, put_joined, counted, plan_of_store, plan_of_next, plan_of_count, plan_of_delete, plan_of_touch, plan_of}
+use Rattle.arc_core.specs.Step.{extra_of, sticky_size, room_for, put_behind, carried_out, ended, named_keys, started, step, unexpired, without_expired, used, used_at, put_joined, counted, plan_of_store, plan_of_next, plan_of_count, plan_of_delete, plan_of_touch, plan_of}
+use Rattle.arc_core.specs.Plan.{Plan, answer_only, put, take_away, take_all}
 use Rattle.byte_account.specs.Accounting.{IsAccounted, IsWithinShare}
 use Rattle.byte_account.specs.Putting as shelf
 use Rattle.byte_account.proofs.PlacesLaws.{total-brought_to_front, total-without}
@@ -104,11 +105,13 @@ module _ (state : CacheState) (key : List ℕ) where
 
   store-is_item : (verb : StoreVerb) (flags : ℕ) (exptime : ℤ) (value : List ℕ) (held : Option Item) → length value ≤ 1048576 → PutsItem (plan_of_store state verb key flags exptime value held)
   unfolding PutsItem
-  store-is_item verb.Set flags exptime value held small = small
+  store-is_item verb flags exptime value (Some (collection attrs contents)) small = tt
+  store-is_item verb.Set flags exptime value None small = small
+  store-is_item verb.Set flags exptime value (Some (key_value old expiry unique was)) small = small
   store-is_item verb.Add flags exptime value None small = small
-  store-is_item verb.Add flags exptime value (Some item) small = tt
+  store-is_item verb.Add flags exptime value (Some (key_value old expiry unique was)) small = tt
   store-is_item verb.Replace flags exptime value None small = tt
-  store-is_item verb.Replace flags exptime value (Some item) small = small
+  store-is_item verb.Replace flags exptime value (Some (key_value old expiry unique was)) small = small
   store-is_item verb.Append flags exptime value None small = tt
   store-is_item verb.Append flags exptime value (Some (key_value old expiry unique was)) small = joined-is_item old expiry _
   store-is_item verb.Prepend flags exptime value None small = tt
@@ -126,6 +129,7 @@ module _ (state : CacheState) (key : List ℕ) where
   count-is_item up delta None None = tt
   count-is_item up delta (Some initial) None = omega (arith, decimal_long initial.2)
   count-is_item up delta initial (Some (key_value flags expiry unique value)) = next-is_item up delta flags expiry (number_below (2 ^ 64) value)
+  count-is_item up delta initial (Some (collection attrs contents)) = tt
 
   touch-is_item : (exptime : ℤ) (held : Option Item) → ((item : Item) → held ≡ Some item → IsItem item) → PutsItem (plan_of_touch state key exptime held)
   unfolding PutsItem

@@ -15,11 +15,12 @@ use Rattle.arc_core.specs.KeyValueGrammar.{store_row, get_row, noreply_word}
 use Rattle.arc_core.specs.Grammar.{head_of, line_needs, command_of}
 use Rattle.arc_core.specs.Item.{Item, key_value}
 use Rattle.arc_core.specs.PlainRequest.{PlainRequest, store, get}
+use Rattle.arc_core.specs.Places.{empty_places}
 use Rattle.arc_core.specs.CacheState.{CacheState, opening_state, accounted}
-use Rattle.arc_core.specs.Step.{step, plan_of, carried_out, ended}
+use Rattle.arc_core.specs.Step.{step, plan_of, plan_of_store, carried_out, ended}
 use Rattle.arc_core.specs.ReplyText.{reply_text, line_end}
 use Rattle.cache_engine.specs.Planning.{state_at}
-use Rattle.cache_engine.proofs.FirstItem.{only, starts, put_first, total_first}
+use Rattle.cache_engine.proofs.FirstItem.{only, starts, put_first, found_none, total_first}
 
 abbrev pub limit : ℕ
 limit = 67108864
@@ -56,10 +57,15 @@ pub get_is_spelled : head_of (words (codes "get a")) ≡ Some (record { command 
 unfolding command_of get_row keys_up_to
 get_is_spelled = refl
 
+-- nothing is held
+abbrev start_state : CacheState
+start_state = state_at 0 0 (empty_places limit limit)
+
 -- the item is stored, with the first cas unique
 pub set_is_stored : step (opening_state limit limit) 0 set_a ≡ (held, reply.Word word.Stored)
 set_is_stored =
     ap (λ start. ended start (a ∷ []) (carried_out start (plan_of start set_a.act))) (starts a 0 limit limit)
+    ∙ ap (λ o. ended start_state (a ∷ []) (carried_out start_state (plan_of_store start_state verb.Set a 5 (pos 0) (codes "abc") o))) (found_none a limit limit)
     ∙ put_first a item limit limit 0 1 (reply.Word word.Stored) (omega arith) refl
 
 -- it is found, and nothing has changed

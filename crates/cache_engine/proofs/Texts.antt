@@ -1,5 +1,5 @@
 -- How long the text of a reply may get.
-use Rattle.std.proofs.Common.{◌≡◌, ◌+◌, ◌*◌, ◌^◌, ◌/◌, ◌%◌, ◌≤◌, ◌<◌, ℕ, zero, suc, List, [], ◌∷◌, ◌++◌, length, Option, Some, None, Bool, true, false, cond, refl, arith, length-append}
+use Rattle.std.proofs.Common.{◌≡◌, ◌+◌, ◌*◌, ◌^◌, ◌/◌, ◌%◌, ◌≤◌, ◌<◌, ℕ, zero, suc, List, [], ◌∷◌, ◌++◌, length, Option, Some, None, Bool, true, false, cond, refl, sym, ap, ◌∙◌, arith, length-append, append_assoc}
 use Rattle.std.proofs.lemmas.Bool.Decides.{nat_tests}
 use Rattle.std.specs.Prelude.{◌==◌, codes, decimal}
 use Rattle.std.specs.Fmt.{digits, digits_onto, digit_glyph}
@@ -8,11 +8,11 @@ use Rattle.std.specs.List.{flat_map}
 use Rattle.std.proofs.lemmas.List.Elements.{All-head, All-tail}
 use Rattle.arc_core.specs.Words.{AreKeys}
 use Rattle.arc_core.specs.Key.{IsKey}
-use Rattle.arc_core.specs.Item.{Item, key_value, IsItem}
+use Rattle.arc_core.specs.Item.{Item, key_value, collection, IsItem}
 use Rattle.arc_core.specs.declared.replies.ValueRow.{ValueRow}
 use Rattle.arc_core.specs.declared.replies.Reply.TheVariants as reply
 use Rattle.arc_core.specs.Places.{Places, found}
-use Rattle.arc_core.specs.Step.{row_of_item, rows_of}
+use Rattle.arc_core.specs.Step.{rows_of_item, rows_of}
 use Rattle.arc_core.specs.ReplyText.{row_text, reply_text, line_end}
 
 key_len : (key : List ℕ) → IsKey key → length key ≤ 16000
@@ -47,16 +47,25 @@ row_long row key value =
     let unique = unique_long row.unique in
     simp length-append (omega arith)
 
-item_long : (unique : Bool) (key : List ℕ) (item : Item) → IsKey key → IsItem item → length (row_text (row_of_item unique key item)) ≤ 2097152
-item_long unique key (key_value flags expiry number value) is ok = row_long (row_of_item unique key (key_value flags expiry number value)) (key_len key is) ok
+item_long : (unique : Bool) (key : List ℕ) (item : Item) → IsKey key → IsItem item → length (flat_map row_text (rows_of_item unique key item)) ≤ 2097152
+item_long unique key (key_value flags expiry number value) is ok =
+    let row : ValueRow = record { key = key; flags = flags; unique = cond unique (Some number) None; value = value } in
+    omega (arith, row_long row (key_len key is) ok, length-append (row_text row) [])
+item_long unique key (collection attrs contents) is ok = omega arith
+
+texts_of : (rows more : List ValueRow) → flat_map row_text (rows ++ more) ≡ flat_map row_text rows ++ flat_map row_text more
+texts_of [] more = refl
+texts_of (row ∷ rows) more = ap (λ t. row_text row ++ t) (texts_of rows more) ∙ sym (append_assoc (row_text row) (flat_map row_text rows) (flat_map row_text more))
 
 rows_long : (unique : Bool) (places : Places Item) (keys : List (List ℕ)) → ((key : List ℕ) (item : Item) → found key places ≡ Some item → IsItem item) → AreKeys keys → length (flat_map row_text (rows_of unique places keys)) ≤ 2097152 * length keys
 rows_long unique places [] ok are = omega arith
 rows_long unique places (key ∷ keys) ok are =
     let more = rows_long unique places keys ok (All-tail IsKey key keys are) in
-    elim (found key places) as (λ o. found key places ≡ o → length (flat_map row_text (option_map_or (λ item. row_of_item unique key item ∷ rows_of unique places keys) o (rows_of unique places keys))) ≤ 2097152 * length (key ∷ keys)) [
+    elim (found key places) as (λ o. found key places ≡ o → length (flat_map row_text (option_map_or (rows_of_item unique key) o [] ++ rows_of unique places keys)) ≤ 2097152 * length (key ∷ keys)) [
       | None ↦ λ is. omega (arith, more)
-      | Some item ↦ λ is. omega (arith, more, item_long unique key item (All-head IsKey key keys are) (ok key item is), length-append (row_text (row_of_item unique key item)) (flat_map row_text (rows_of unique places keys)))
+      | Some item ↦ λ is.
+          rw (texts_of (rows_of_item unique key item) (rows_of unique places keys))
+          (omega (arith, more, item_long unique key item (All-head IsKey key keys are) (ok key item is), length-append (flat_map row_text (rows_of_item unique key item)) (flat_map row_text (rows_of unique places keys))))
     ] refl
 
 -- the text of a retrieval's answer is below 2^64 bytes

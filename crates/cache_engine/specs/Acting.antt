@@ -7,7 +7,8 @@ use Rattle.arc_core.specs.declared.replies.Word.TheVariants as word
 use Rattle.arc_core.specs.PlainRequest.{PlainAct}
 use Rattle.arc_core.specs.CacheState.{CacheState}
 use Rattle.arc_core.specs.History.{MayWantMemory}
-use Rattle.arc_core.specs.Step.{Plan, answer_only, named_keys, started, plan_of, carried_out, ended}
+use Rattle.arc_core.specs.Step.{named_keys, started, plan_of, carried_out, ended}
+use Rattle.arc_core.specs.Plan.{Plan, answer_only}
 
 -- The state at the start of a step that names this key alone.
 abbrev pub start_at : CacheState → ℕ → List ℕ → CacheState

@@ -5,7 +5,8 @@ use Rattle.arc_core.specs.Item.{Item, size_of, expiry_of, is_sticky}
 use Rattle.arc_core.specs.Places.{placed}
 use Rattle.arc_core.specs.Room.{share_fits}
 use Rattle.arc_core.specs.CacheState.{CacheState}
-use Rattle.arc_core.specs.Step.{put, extra_of, sticky_extra_of, put_behind, carried_out}
+use Rattle.arc_core.specs.Step.{extra_of, sticky_extra_of, put_behind, carried_out}
+use Rattle.arc_core.specs.Plan.{put}
 use Rattle.byte_account.specs.LeastEviction.{IsLeastEviction}
 use Rattle.byte_account.specs.declared.room.Room.{Room}
 use Rattle.byte_account.specs.declared.room.Room.TheVariants.{Fits, Nothing}

@@ -6,7 +6,7 @@ use Rattle.arc_core.specs.declared.replies.Word.TheVariants as word
 use Rattle.arc_core.specs.Item.{Item}
 use Rattle.arc_core.specs.Places.{Places}
 use Rattle.arc_core.specs.CacheState.{CacheState}
-use Rattle.arc_core.specs.Step.{Plan, answer_only, put}
+use Rattle.arc_core.specs.Plan.{Plan, answer_only, put}
 use Rattle.arc_core.specs.ReplyText.{reply_text}
 use Rattle.kv_items.specs.PlainItem.{plain_item}
 use Rattle.kv_items.specs.declared.item.KvItem.{KvItem}

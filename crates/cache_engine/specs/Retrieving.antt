@@ -5,14 +5,14 @@ use Rattle.arc_core.specs.declared.replies.ValueRow.{ValueRow}
 use Rattle.arc_core.specs.declared.faults.NoMemory.{NoMemory}
 use Rattle.arc_core.specs.Item.{Item, expiry_of, has_expired}
 use Rattle.arc_core.specs.Places.{Places, found}
-use Rattle.arc_core.specs.Step.{row_of_item}
+use Rattle.arc_core.specs.Step.{rows_of_item}
 use Rattle.cache_engine.specs.Starting.{live_of}
 
--- a row for each key under which an item is held that has not expired, in the keys' order
+-- the rows of the items under the keys that have not expired, in the keys' order
 abbrev pub live_rows : Bool → ℕ → Places Item → List (List ℕ) → List ValueRow
 live_rows unique latest places [] = []
 live_rows unique latest places (key ∷ keys) =
-    option_map_or (λ item. row_of_item unique key item ∷ live_rows unique latest places keys) (live_of latest (found key places)) (live_rows unique latest places keys)
+    option_map_or (rows_of_item unique key) (live_of latest (found key places)) [] ++ live_rows unique latest places keys
 
 -- whether an item has expired
 abbrev pub is_late : ℕ → Option Item → Bool

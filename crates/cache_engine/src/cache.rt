@@ -3,7 +3,7 @@ ghost use Rattle.std.specs.Prelude.{◌≡◌, ◌≤◌, ◌<◌, ◌^◌, max,
 ghost use Rattle.arc_core.specs.PlainRequest as act;
 ghost use Rattle.arc_core.specs.Places.{count_of, found};
 ghost use Rattle.arc_core.specs.CacheState.{ArePlaced, opening_state, accounted, accounted_sticky, IsState};
-ghost use Rattle.arc_core.specs.Step.{Plan, put};
+ghost use Rattle.arc_core.specs.Plan.{Plan, put};
 ghost use Rattle.arc_core.specs.ReplyText.{reply_text};
 ghost use Rattle.kv_items.specs.PlainItem.{plain_item};
 ghost use Rattle.cache_engine.specs.Planning.{Plans, IsShort};

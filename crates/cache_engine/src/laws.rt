@@ -7,7 +7,8 @@ ghost use Rattle.arc_core.specs.Item.{Item};
 ghost use Rattle.arc_core.specs.PlainRequest.{PlainRequest};
 ghost use Rattle.arc_core.specs.Grammar.{CanBeSpelled};
 ghost use Rattle.arc_core.specs.CacheState.{CacheState, IsState};
-ghost use Rattle.arc_core.specs.Step.{answer_only, put, extra_of, carried_out, named_keys, started, step};
+ghost use Rattle.arc_core.specs.Step.{extra_of, carried_out, named_keys, started, step};
+ghost use Rattle.arc_core.specs.Plan.{answer_only, put};
 ghost use Rattle.byte_account.specs.declared.room.Room.TheVariants.{Nothing};
 ghost use Rattle.cache_engine.specs.Evicting.{MakesRoom, EvictsLeast, EvictsNothing};
 

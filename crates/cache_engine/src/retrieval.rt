@@ -1,7 +1,7 @@
 //! What a retrieval answers, and what it leaves.
-ghost use Rattle.std.specs.Prelude.{◌≡◌, ◌<◌, ◌^◌, ℕ, length, IfOk, OnOk};
+ghost use Rattle.std.specs.Prelude.{◌≡◌, ◌<◌, ◌^◌, ◌∷◌, [], ℕ, length, IfOk, OnOk};
 ghost use Rattle.arc_core.specs.Item.{Item};
-ghost use Rattle.arc_core.specs.Step.{row_of_item, unexpired, used};
+ghost use Rattle.arc_core.specs.Step.{rows_of_item, unexpired, used};
 ghost use Rattle.arc_core.specs.Words.{AreKeys};
 ghost use Rattle.arc_core.specs.CacheState.{ArePlaced};
 ghost use Rattle.kv_items.specs.PlainItem.{plain_item};
@@ -16,7 +16,7 @@ use std::alloc::Global;
 /// What is read for a retrieval.
 #[derive(Drop)]
 pub struct Found {
-    /// A row for each key under which an item is held that has not expired, in the keys' order.
+    /// A row for each key under which a key-value item is held that has not expired, in the keys' order.
     pub rows: Seq<ValueRow>,
     /// Whether the item under one of the keys has expired.
     pub late: bool,
@@ -72,7 +72,7 @@ fn row_of(
     item: &KvItem,
     unique: bool,
 ) -> Result<ValueRow, NoMemory>
-    ensures { IfOk result (λ row. row ≡ row_of_item unique key.now (plain_item item.now)) }
+    ensures { IfOk result (λ row. rows_of_item unique key.now (plain_item item.now) ≡ row ∷ []) }
 {
     let value = item.value.share()?;
     let key = Key::copy(alloc, KeyRef::of(key.bytes()))?;

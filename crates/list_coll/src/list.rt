@@ -1,6 +1,7 @@
 //! The elements of a list.
-ghost use Rattle.std.specs.Prelude.{◌≡◌, ◌+◌, ◌-◌, ◌≤◌, ◌<◌, ℕ, [], length, insert, slice_get, OnOk, OnErr, IfSome};
+ghost use Rattle.std.specs.Prelude.{◌≡◌, ◌+◌, ◌-◌, ◌%◌, ◌^◌, ◌≤◌, ◌<◌, ℕ, [], length, insert, slice_get, slice_range, OnOk, OnErr, IfSome};
 ghost use Rattle.std.specs.List.{remove_range};
+ghost use Rattle.arc_core.specs.CollectionSize.{value_size, values_size};
 ghost use Rattle.arc_core.specs.InsertPlan.{IsListAction, KeepsLimit, insert_plan};
 ghost use Rattle.arc_core.specs.Span.{span};
 
@@ -21,11 +22,14 @@ const MAX_ELEMENTS: usize = 4_294_967_295;
 #[derive(Drop)]
 pub struct ListColl {
     elements: VecDeque<Value>,
+    // The stated sizes of the elements together, modulo 2^64.
+    size: u64,
 }
 
 impl Model for ListColl {
-    ghost use Rattle.std.specs.Prelude.{◌-◌, ◌≤◌, length};
+    ghost use Rattle.std.specs.Prelude.{◌≡◌, ◌-◌, ◌%◌, ◌^◌, ◌≤◌, length};
     ghost use Rattle.std.specs.VecDeque.{deque_capacity};
+    ghost use Rattle.arc_core.specs.CollectionSize.{values_size};
     ghost use Rattle.list_coll.specs.ListContents.{ListContents, most_elements, room_of};
 
     ghost Value = { ListContents };
@@ -35,7 +39,7 @@ impl Model for ListColl {
       spare = room_of (length list.elements.items) (deque_capacity list.elements - length list.elements.items);
     } };
 
-    ghost invariant = { λ list. length list.elements.items ≤ most_elements };
+    ghost invariant = { λ list. (length list.elements.items ≤ most_elements) × (list.size ≡ values_size list.elements.items % 2 ^ 64) };
 }
 
 impl ListColl {
@@ -45,6 +49,7 @@ impl ListColl {
     {
         ListColl {
             elements: VecDeque::new(alloc),
+            size: 0,
         }
     }
 
@@ -53,6 +58,14 @@ impl ListColl {
         ensures { result ≡ length self.now.values }
     {
         self.elements.len() as u32
+    }
+
+    /// The stated sizes of the elements together, in bytes and modulo 2^64: 32 and the bytes of its value for each (this
+    /// server's own). It is a number that each change keeps right, so that no element is looked at.
+    pub fn size(&self) -> u64
+        ensures { result ≡ values_size self.now.values % 2 ^ 64 }
+    {
+        self.size
     }
 
     /// Makes room for one more element.
@@ -94,6 +107,7 @@ impl ListColl {
         ensures values { self.new.values ≡ insert self.old.values place value }
         ensures spare { self.old.spare ≤ self.new.spare + 1 }
     {
+        self.size = self.size.wrapping_add(value_size(&value));
         self.elements.insert(place as usize, value).unwrap();
     }
 
@@ -117,13 +131,36 @@ impl ListColl {
         &self.elements[place as usize]
     }
 
-    /// Removes the elements from place `low` to place `high`, both of them too, in one step.
+    /// Removes the elements from place `low` to place `high`, both of them too, in one step. Takes no memory.
     pub fn remove(&mut self, low: u32, high: u32)
         requires order { low ≤ high }
         requires within { high < length self.old.values }
         ensures values { self.new.values ≡ remove_range self.old.values low (high + 1) }
         ensures spare { self.new.spare ≡ self.old.spare + (high + 1 - low) }
     {
-        self.elements.drain(low as usize..high as usize + 1);
+        let end = high as usize + 1;
+        let gone = size_between(&self.elements, low as usize, end);
+        self.size = self.size.wrapping_sub(gone);
+        self.elements.drain(low as usize..end);
     }
+}
+
+// The stated size of an element, in bytes.
+fn value_size(value: &Value) -> u64
+    ensures { result ≡ value_size value.now }
+{
+    32 + value.bytes().len() as u64
+}
+
+// The stated sizes of the elements from place `low` to before place `high` together, modulo 2^64.
+fn size_between(elements: &VecDeque<Value>, low: usize, high: usize) -> u64
+    requires order { low ≤ high }
+    requires within { high ≤ length elements.now.items }
+    ensures { result ≡ values_size (slice_range elements.now.items low high) % 2 ^ 64 }
+{
+    let mut size = 0u64;
+    for value in elements.range(low..high) {
+        size = size.wrapping_add(value_size(value));
+    }
+    size
 }

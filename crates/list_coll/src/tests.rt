@@ -125,12 +125,19 @@ fn keeps_five_elements_and_reads_both_ways(rt: HostRuntime) -> Result<(), Fail> 
         b"fabcd".as_slice()
     );
     assert_eq!(rt; read(&rt, alloc, &list, 5, 9)?.as_slice(), b"".as_slice());
+    assert_eq!(rt; list.size(), 5 * 33);
     assert!(rt; list.count() == 5);
     list.remove(1, 3);
     assert_eq!(rt;
         read(&rt, alloc, &list, 0, -1)?.as_slice(),
         b"fd".as_slice()
     );
+    assert_eq!(rt; list.size(), 2 * 33);
+    insert(&rt, alloc, &mut list, 1, b"twelve bytes")?;
+    assert_eq!(rt; list.size(), 2 * 33 + 44);
+    assert!(rt; list.count() == 3);
+    list.remove(0, 2);
+    assert_eq!(rt; list.size(), 0);
     Ok(())
 }
 

@@ -7,7 +7,7 @@ use Rattle.std.proofs.lemmas.Bool.{false≢true}
 use Rattle.std.specs.Map.{keys_of, values_of, lookup}
 use Rattle.std.proofs.lemmas.List.Elements.{All-append, All-take, All-drop, All-cons, All-head, All-tail, All-nil, All-map}
 use Rattle.indexmap.specs.IndexMap.{IndexMap, insert_entry, set_value_at}
-use Rattle.map_coll.specs.MapContents.{with_value_at}
+use Rattle.arc_core.specs.MapReading.{with_value_at}
 use Rattle.arc_core.proofs.MappedLists.{push_seen}
 use Rattle.indexmap.proofs.CallerLemmas.{insert_entry-new}
 

@@ -1,2 +1,5 @@
+pub mod ChosenLemmas
 pub mod MarkedEntries
+pub mod MarkedSizes
 pub mod EntryLemmas
+pub mod SizeLemmas

@@ -8,7 +8,7 @@ use Rattle.std.proofs.lemmas.List.Elements.{All-from_recursion, recursion_from_A
 use Rattle.std.specs.Cmp.Lexicographic.{same_text}
 use Rattle.indexmap.specs.IndexMap.{set_value_at}
 use Rattle.indexmap.proofs.MapLemmas.{Found-position}
-use Rattle.map_coll.specs.MapContents.{is_named}
+use Rattle.arc_core.specs.MapReading.{is_named}
 use Rattle.arc_core.proofs.MappedLists.{list_any-position_None}
 
 module _ {K V : Type 0} (h : K → List ℕ) (marked : V → Bool) where
@@ -17,7 +17,7 @@ module _ {K V : Type 0} (h : K → List ℕ) (marked : V → Bool) where
   AreMarked names es = AllByRecursion (λ e. marked e.1 ≡ is_named names (h e.0)) es
 
   -- the first entry whose key passes is at this place
-  FirstAt : (K → Bool) → List (K × V) → ℕ → Type 0
+  unfoldable pub FirstAt : (K → Bool) → List (K × V) → ℕ → Type 0
   FirstAt t [] i = ⊥
   FirstAt t (e ∷ es) zero = t e.0 ≡ true
   FirstAt t (e ∷ es) (suc i) = (t e.0 ≡ false) × FirstAt t es i
@@ -60,7 +60,7 @@ module _ {K V : Type 0} (h : K → List ℕ) (marked : V → Bool) where
   marked_first names n w is (e ∷ es) (suc i) first distinct marks =
       (marks.0 ∙ sym (named_still names n (h e.0) first.0), marked_first names n w is es i first.1 distinct.1 marks.1)
 
-  first_at : (t : K → Bool) (es : List (K × V)) (i : ℕ) → position_or_len t (keys_of es) ≡ i → i < length es → FirstAt t es i
+  pub first_at : (t : K → Bool) (es : List (K × V)) (i : ℕ) → position_or_len t (keys_of es) ≡ i → i < length es → FirstAt t es i
   unfolding FirstAt
   first_at t [] i at within = absurd (omega arith)
   first_at t (e ∷ es) i at within = by (t e.0) refl i at within (first_at t es)

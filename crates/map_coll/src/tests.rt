@@ -12,8 +12,10 @@ fn replaces_a_value_in_its_place(rt: HostRuntime) -> Result<(), Fail> {
     add(&rt, alloc, &mut map, b"f1", b"a")?;
     add(&rt, alloc, &mut map, b"f2", b"b")?;
     assert_eq!(rt; map.place_of(b"f1"), Some(0));
+    assert_eq!(rt; map.size(), 2 * (32 + 2 + 1));
     assert!(rt; 0 < map.count());
     let old = map.replace(0, Value::copy(alloc, b"cc")?);
+    assert_eq!(rt; map.size(), (32 + 2 + 2) + (32 + 2 + 1));
     assert_eq!(rt; old.bytes(), b"a".as_slice());
     assert_eq!(rt; map.place_of(b"f2"), Some(1));
     assert_eq!(rt; map.place_of(b"f1"), Some(0));
@@ -31,6 +33,7 @@ fn keeps_the_order_of_what_is_left(rt: HostRuntime) -> Result<(), Fail> {
     }
     assert!(rt; 1 < map.count());
     map.remove(1);
+    assert_eq!(rt; map.size(), 4 * 34);
     assert_eq!(rt;
         text(alloc, &map)?.as_slice(),
         b"a=1 c=1 d=1 e=1 ".as_slice()
@@ -38,10 +41,13 @@ fn keeps_the_order_of_what_is_left(rt: HostRuntime) -> Result<(), Fail> {
     add(&rt, alloc, &mut map, b"b", b"2")?;
     map.remove_first(2);
     assert_eq!(rt; text(alloc, &map)?.as_slice(), b"d=1 e=1 b=2 ".as_slice());
+    assert_eq!(rt; map.size(), 3 * 34);
     map.remove_first(9);
     assert_eq!(rt; map.count(), 0);
+    assert_eq!(rt; map.size(), 0);
     add(&rt, alloc, &mut map, b"f", b"3")?;
     map.remove_all();
+    assert_eq!(rt; map.size(), 0);
     assert_eq!(rt; map.place_of(b"f"), None);
     Ok(())
 }
@@ -56,6 +62,7 @@ fn removes_named_fields_at_once(rt: HostRuntime) -> Result<(), Fail> {
     let fields = KeyWords::read(b"d x a d", 4).ok_or("words")?;
     map.remove_fields(&fields);
     assert_eq!(rt; text(alloc, &map)?.as_slice(), b"b=1 c=1 e=1 ".as_slice());
+    assert_eq!(rt; map.size(), 3 * 34);
     assert_eq!(rt; map.place_of(b"e"), Some(2));
     assert_eq!(rt; map.place_of(b"d"), None);
     add(&rt, alloc, &mut map, b"d", b"2")?;
@@ -65,6 +72,30 @@ fn removes_named_fields_at_once(rt: HostRuntime) -> Result<(), Fail> {
     );
     Ok(())
 }
+
+#[test]
+fn chooses_named_fields_in_the_order_of_naming(rt: HostRuntime) -> Result<(), Fail> {
+    let alloc = rt.alloc();
+    let mut map = MapColl::new(alloc);
+    for field in [b"a", b"b", b"c"] {
+        add(&rt, alloc, &mut map, field, b"1")?;
+    }
+    for (names, count, places) in CHOICES {
+        let fields = KeyWords::read(names, count).ok_or("words")?;
+        assert_eq!(rt; map.chosen(alloc, &fields)?.as_slice(), places);
+    }
+    Ok(())
+}
+
+// The named fields, how many they are, and which of the places of `a`, `b` and `c` are chosen.
+const CHOICES: [(&[u8], u32, &[u32]); 6] = [
+    (b"b", 1, &[1]),
+    (b"x", 1, &[]),
+    (b"c a", 2, &[2, 0]),
+    (b"c x a c b a", 6, &[2, 0, 1]),
+    (b"x y", 2, &[]),
+    (b"b b", 2, &[1]),
+];
 
 // Puts a pair last whose field is not there.
 fn add(

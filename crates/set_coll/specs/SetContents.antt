@@ -1,6 +1,5 @@
 -- What contracts see of a set.
-use Rattle.std.specs.Prelude.{◌≢◌, ℕ, ◌-◌, min, List, Option, position, AllPairs}
-use Rattle.std.specs.Str.{bytes_eq}
+use Rattle.std.specs.Prelude.{ℕ, ◌-◌, min, List}
 
 -- The values in the order of insertion, and for how many further values there is room.
 pub record SetContents : Type 0 where
@@ -14,11 +13,3 @@ most_values = 4_294_967_295
 -- the room of a set of n values, of which memory allows so many further
 abbrev pub room_of : ℕ → ℕ → ℕ
 room_of n further = min further (most_values - n)
-
--- the place of a value, counted from 0 in the order of insertion
-abbrev pub place_of : List ℕ → List (List ℕ) → Option ℕ
-place_of value values = position (bytes_eq value) values
-
--- no value is there twice
-abbrev pub AreDistinct : List (List ℕ) → Type 0
-AreDistinct values = AllPairs (λ x y. x ≢ y) values

@@ -16,11 +16,13 @@ fn finds_values_and_takes_the_first(rt: HostRuntime) -> Result<(), Fail> {
     assert_eq!(rt; set.place_of(b"c"), None);
     assert_eq!(rt; set.place_of(b""), None);
     assert_eq!(rt; set.count(), 2);
+    assert_eq!(rt; set.size(), 2 * 33);
     set.remove_first(1);
     assert_eq!(rt; values(alloc, &set)?.as_slice(), b"b".as_slice());
     assert_eq!(rt; set.place_of(b"a"), None);
     set.remove_first(1);
     assert_eq!(rt; set.count(), 0);
+    assert_eq!(rt; set.size(), 0);
     Ok(())
 }
 
@@ -35,13 +37,18 @@ fn keeps_the_order_of_what_is_left(rt: HostRuntime) -> Result<(), Fail> {
     set.remove(1);
     assert_eq!(rt; values(alloc, &set)?.as_slice(), b"acde".as_slice());
     assert_eq!(rt; set.place_of(b"e"), Some(3));
+    assert_eq!(rt; set.size(), 4 * 33);
     add(&rt, alloc, &mut set, b"b")?;
     set.remove_first(2);
     assert_eq!(rt; values(alloc, &set)?.as_slice(), b"deb".as_slice());
+    add(&rt, alloc, &mut set, b"twelve bytes")?;
+    assert_eq!(rt; set.size(), 3 * 33 + 44);
     set.remove_first(9);
     assert_eq!(rt; values(alloc, &set)?.as_slice(), b"".as_slice());
+    assert_eq!(rt; set.size(), 0);
     add(&rt, alloc, &mut set, b"f")?;
     set.remove_all();
+    assert_eq!(rt; set.size(), 0);
     assert_eq!(rt; set.place_of(b"f"), None);
     assert_eq!(rt; set.count(), 0);
     Ok(())

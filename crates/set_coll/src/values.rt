@@ -1,6 +1,7 @@
 //! The values of a set.
-ghost use Rattle.std.specs.Prelude.{◌≡◌, ◌+◌, ◌≤◌, ◌<◌, [], ◌∷◌, ◌++◌, length, remove, drop, slice_get, IfSome, OnOk, OnErr};
-ghost use Rattle.set_coll.specs.SetContents.{place_of, AreDistinct};
+ghost use Rattle.std.specs.Prelude.{◌≡◌, ◌+◌, ◌%◌, ◌^◌, ◌≤◌, ◌<◌, [], ◌∷◌, ◌++◌, length, map, remove, drop, slice_get, IfSome, OnOk, OnErr};
+ghost use Rattle.arc_core.specs.CollectionSize.{value_size, values_size};
+ghost use Rattle.arc_core.specs.SetReading.{place_of, AreDistinct};
 
 use arc_core::NoMemory;
 use indexmap::IndexSet;
@@ -18,10 +19,13 @@ const MAX_VALUES: usize = 4_294_967_295;
 #[derive(Drop)]
 pub struct SetColl {
     table: IndexSet<Vec<u8>>,
+    // The stated sizes of the values together, modulo 2^64.
+    size: u64,
 }
 
 impl Model for SetColl {
-    ghost use Rattle.std.specs.Prelude.{◌≤◌, length, map};
+    ghost use Rattle.std.specs.Prelude.{◌≡◌, ◌%◌, ◌^◌, ◌≤◌, length, map};
+    ghost use Rattle.arc_core.specs.CollectionSize.{values_size};
     ghost use Rattle.indexmap.specs.IndexSet.{spare};
     ghost use Rattle.set_coll.specs.SetContents.{SetContents, most_values, room_of};
 
@@ -32,7 +36,7 @@ impl Model for SetColl {
       spare = room_of (length it.table.keys) (spare it.table);
     } };
 
-    ghost invariant = { λ it. length it.table.keys ≤ most_values };
+    ghost invariant = { λ it. (length it.table.keys ≤ most_values) × (it.size ≡ values_size (map (λ v. v.items) it.table.keys) % 2 ^ 64) };
 }
 
 impl SetColl {
@@ -42,6 +46,7 @@ impl SetColl {
     {
         SetColl {
             table: IndexSet::new(alloc),
+            size: 0,
         }
     }
 
@@ -51,6 +56,14 @@ impl SetColl {
         ensures distinct { AreDistinct self.now.values }
     {
         self.table.len() as u32
+    }
+
+    /// The stated sizes of the values together, in bytes and modulo 2^64: 32 and its bytes for each (this server's own).
+    /// It is a number that each change keeps right, so that no value is looked at.
+    pub fn size(&self) -> u64
+        ensures { result ≡ values_size self.now.values % 2 ^ 64 }
+    {
+        self.size
     }
 
     /// Makes room for one more value.
@@ -85,6 +98,7 @@ impl SetColl {
         ensures values { self.new.values ≡ self.old.values ++ value.items ∷ [] }
         ensures spare { self.old.spare ≤ self.new.spare + 1 }
     {
+        self.size = self.size.wrapping_add(value_size(&value));
         self.table.insert(value).unwrap();
     }
 
@@ -96,29 +110,54 @@ impl SetColl {
         &self.table.as_slice()[place as usize]
     }
 
-    /// Removes the value at a place. The others keep their order, which costs a move of each that is behind it.
+    /// Removes the value at a place. The others keep their order, which costs a move of each that is behind it. Takes no
+    /// memory.
     pub fn remove(&mut self, place: u32)
         requires { place < length self.old.values }
         ensures values { self.new.values ≡ remove self.old.values place }
         ensures spare { self.old.spare ≤ self.new.spare }
     {
+        let gone = value_size(&self.table.as_slice()[place as usize]);
+        self.size = self.size.wrapping_sub(gone);
         self.table.shift_remove_index(place as usize);
     }
 
-    /// Removes the first `n` values, or all where there are fewer, in one step. The others keep their order.
+    /// Removes the first `n` values, or all where there are fewer, in one step. The others keep their order. Takes no
+    /// memory.
     pub fn remove_first(&mut self, n: u32)
         ensures values { self.new.values ≡ drop n self.old.values }
         ensures spare { self.old.spare ≤ self.new.spare }
     {
         let n = self.table.len().min(n as usize);
+        let gone = values_size(&self.table.as_slice()[..n]);
+        self.size = self.size.wrapping_sub(gone);
         self.table.drain(..n);
     }
 
-    /// Removes all values in one step.
+    /// Removes all values in one step. Takes no memory.
     pub fn remove_all(&mut self)
         ensures values { self.new.values ≡ [] }
         ensures spare { self.old.spare ≤ self.new.spare }
     {
+        self.size = 0;
         self.table.clear();
     }
+}
+
+// The stated size of a value, in bytes.
+fn value_size(value: &[u8]) -> u64
+    ensures { result ≡ value_size value.now }
+{
+    32 + value.len() as u64
+}
+
+// The stated sizes of these values together, modulo 2^64.
+fn values_size(values: &[Vec<u8>]) -> u64
+    ensures { result ≡ values_size (map (λ v. v.items) values.now) % 2 ^ 64 }
+{
+    let mut size = 0u64;
+    for value in values {
+        size = size.wrapping_add(value_size(value));
+    }
+    size
 }
