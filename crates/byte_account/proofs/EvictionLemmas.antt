@@ -2,7 +2,8 @@
 use Rattle.std.proofs.Common.{◌≡◌, ℕ, suc, ◌+◌, ◌-◌, ◌<◌, ◌≤◌, true, false, cond, not, ◌||◌, List, [], ◌∷◌, ◌++◌, length, take, drop, get_or, slice_get, Option, Some, None, IsSome, bytes_eq, nat_le, refl, sym, ap, ◌∙◌, subst, inl, inr, arith}
 use Rattle.std.specs.Option.{option_map_or, option_or}
 use Rattle.std.specs.Map.{lookup}
-use Rattle.std.proofs.lemmas.List.{append-nil, append_assoc, take_all, take_more, take-map, take-append-drop, map-append, length-append, length-map, take-take, length-take-le}
+use Rattle.std.specs.Cmp.Lexicographic.{nat_list_eq_equiv}
+use Rattle.std.proofs.lemmas.List.{append-nil, append_assoc, take_all, take_more, take-append-drop, length-append, take-take, length-take-le}
 use Rattle.std.proofs.lemmas.List.Sums.{sum_by_push, sum_by-append, sum_by-take-drop}
 use Rattle.std.proofs.lemmas.Option.{get_or_from_slice_get, slice_get_within, slice_get_cases}
 use Rattle.std.proofs.lemmas.Bool.{le-leb, cases_lt}
@@ -11,10 +12,9 @@ use Rattle.std.proofs.lemmas.Bool.Decides.{nat_tests}
 use Rattle.lru.specs.LruCache.{last_entry}
 use Rattle.arc_core.specs.Places.{others, to_front, weight_of}
 use Rattle.arc_core.specs.Room.{survivors}
-use Rattle.byte_account.specs.ByBytes.{by_bytes, entry_by_bytes}
 use Rattle.byte_account.specs.Eviction.{is_last, to_back, PopsDownTo}
 use Rattle.byte_account.specs.Weight.{weight_under}
-use Rattle.byte_account.proofs.ShelfLists.{AreApart-cons, AreApart-tail, IsAbsent-head, IsAbsent, IsAbsent-front, IsAbsent-before, AreApart-front, weight-others, lookup-append, AreApart, IsAbsent-back, IsAbsent-differs, others-append, others-absent, weight-cons, same_key, own_key, AreApart-to_front, weight-to_front}
+use Rattle.byte_account.proofs.ShelfLists.{AreApart-cons, AreApart-tail, IsAbsent-head, IsAbsent, IsAbsent-front, IsAbsent-before, AreApart-front, weight-others, lookup-append, AreApart, IsAbsent-back, IsAbsent-differs, IsAbsent-append, AreApart-others, lookup-others, others-append, others-absent, weight-cons, same_key, own_key, AreApart-to_front, weight-to_front}
 
 pub lt-leb-false : (a b : ℕ) → a < b → nat_le b a ≡ false
 lt-leb-false a b h = grind (arith, nat_tests)
@@ -26,16 +26,6 @@ last_split xs x last =
     let at : get_or xs (length xs - 1) x ≡ x = get_or_from_slice_get xs (length xs - 1) x x last in
     let count : length xs - 1 + 1 ≡ length xs = omega arith in
     sym (take_all (length xs) xs (omega arith)) ∙ ap (λ n. take n xs) (sym count) ∙ take_more xs (length xs - 1) x within ∙ ap (λ y. take (length xs - 1) xs ++ y ∷ []) at
-
-module _ {K X : Type 0} (bytes : K → List ℕ) where
-  pub by_bytes-take_front : (es : List (K × X)) → by_bytes bytes (take (length es - 1) es) ≡ take (length (by_bytes bytes es) - 1) (by_bytes bytes es)
-  by_bytes-take_front es = sym (take-map (entry_by_bytes bytes) (length es - 1) es) ∙ ap (λ n. take (n - 1) (by_bytes bytes es)) (sym (length-map es (entry_by_bytes bytes)))
-
-  pub weight-pop : (weigh : List ℕ → X → ℕ) (es : List (K × X)) (e : K × X) → last_entry es ≡ Some e → weight_of weigh (by_bytes bytes (take (length es - 1) es)) + weigh (bytes e.0) e.1 ≡ weight_of weigh (by_bytes bytes es)
-  weight-pop weigh es e last =
-      let f : List ℕ × X → ℕ = λ p. weigh p.0 p.1 in
-      let front = take (length es - 1) es in
-      sym (ap (λ xs. weight_of weigh (by_bytes bytes xs)) (last_split es e last) ∙ ap (weight_of weigh) (map-append (entry_by_bytes bytes) front (e ∷ [])) ∙ sum_by_push f (by_bytes bytes front) (entry_by_bytes bytes e))
 
 module _ {X : Type 0} where
   -- the last places are gone: so many of n, none of them the key's
@@ -176,6 +166,21 @@ module _ {X : Type 0} where
 
   pub weight-to_back : (weigh : List ℕ → X → ℕ) (key : List ℕ) (shelf : List (List ℕ × X)) → AreApart shelf → weight_of weigh (to_back key shelf) ≡ weight_of weigh shelf
   weight-to_back weigh key shelf apart = weight_at_back weigh key shelf (lookup (bytes_eq key) shelf) (weight-others weigh key shelf apart)
+
+  AreApart-push : (key : List ℕ) (x : X) (shelf : List (List ℕ × X)) → IsAbsent key shelf → AreApart shelf → AreApart (shelf ++ (key, x) ∷ [])
+  AreApart-push key x [] absent apart = AreApart-cons key x [] refl apart
+  AreApart-push key x (place ∷ older) absent apart =
+      let other : bytes_eq place.0 key ≡ false = nat_list_eq_equiv.symm place.0 key ∙ IsAbsent-differs key place older absent in
+      AreApart-cons place.0 place.1 (older ++ (key, x) ∷ [])
+      (IsAbsent-append place.0 older ((key, x) ∷ []) (IsAbsent-head place older apart) (ap (λ b. cond b (Some x) None) other))
+      (AreApart-push key x older (IsAbsent-back key (place ∷ []) older absent) (AreApart-tail place older apart))
+
+  apart_at_back : (key : List ℕ) (shelf : List (List ℕ × X)) (found : Option X) → AreApart shelf → AreApart (option_map_or (λ x. others key shelf ++ (key, x) ∷ []) found shelf)
+  apart_at_back key shelf None apart = apart
+  apart_at_back key shelf (Some x) apart = AreApart-push key x (others key shelf) (lookup-others key shelf) (AreApart-others key shelf apart)
+
+  pub AreApart-to_back : (key : List ℕ) (shelf : List (List ℕ × X)) → AreApart shelf → AreApart (to_back key shelf)
+  AreApart-to_back key shelf = apart_at_back key shelf (lookup (bytes_eq key) shelf)
 
   -- with the key's place last: it steps aside to the front, `left` places go from the end, and it comes back
   aside_and_back : (key : List ℕ) (left : ℕ) (x : X) (front gone aside next : List (List ℕ × X)) → IsAbsent key front → IsAbsent key gone → left ≤ length front

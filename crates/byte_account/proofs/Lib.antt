@@ -16,3 +16,4 @@ pub mod EvictionLaws
 pub mod FilledLaws
 pub mod StoreLaws
 pub mod PutLaws
+pub mod NumberLemmas

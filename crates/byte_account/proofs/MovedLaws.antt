@@ -1,20 +1,16 @@
 -- What the calls that put an item in another's place leave together: a place that is used, changes sides, or stands for
 -- an item that is gone.
-use Rattle.std.proofs.Common.{◌≡◌, ℕ, suc, ◌+◌, ◌-◌, ◌≤◌, Bool, true, false, cond, not, ◌||◌, List, [], ◌∷◌, length, nat_le, Option, Some, None, IsSome, is_some, bytes_eq, ℤ, pos, negsuc, ◌-ℤ◌, refl, sym, ap, ◌∙◌, arith}
+use Rattle.std.proofs.Common.{◌≡◌, ℕ, ◌+◌, ◌≤◌, Bool, true, false, cond, not, ◌||◌, List, [], ◌∷◌, length, nat_le, Option, Some, None, is_some, bytes_eq, ℤ, pos, negsuc, ◌-ℤ◌, refl, sym, ap, ◌∙◌, arith}
 use Rattle.std.proofs.lemmas.Int.{ints}
 use Rattle.std.proofs.lemmas.Bool.{le-leb, leb-true}
-use Rattle.std.specs.Option.{option_or, option_map_or}
+use Rattle.std.specs.Option.{option_map_or}
 use Rattle.std.specs.Map.{lookup, set_value}
-use Rattle.std.specs.Ordering.{nat_cmp}
-use Rattle.std.specs.Cmp.Lexicographic.{slice_cmp}
-use Rattle.std.specs.FinMap.{FinMap}
 use Rattle.std.specs.FinMap as finite
 use Rattle.arc_core.specs.Places.{Places, HasEachKeyOnce, found, others, to_front, shelved, brought_to_front, placed, refilled, without, weight_of, total_of, sticky_total_of}
 use Rattle.arc_core.specs.Room.{shortest_suffix, survivors, evicted, fits, room}
 use Rattle.byte_account.specs.ShelfWords.{on_side}
 use Rattle.byte_account.specs.Weight.{weight_under}
-use Rattle.byte_account.proofs.ShelfLists.{IsAbsent, own_key, others-absent, lookup-others, lookup-set_value, lookup-shelved, shelved-new, shelved-held, set_value-absent}
-use Rattle.byte_account.proofs.StickyMaps.{same_map, get-insert, get-remove}
+use Rattle.byte_account.proofs.ShelfLists.{IsAbsent, own_key, others-absent, lookup-others, lookup-set_value, lookup-shelved, shelved-new, shelved-held}
 use Rattle.byte_account.proofs.StickySums.{remove-absent, insert-replaces}
 use Rattle.byte_account.proofs.EvictionLemmas.{IsAbsent-survivors, others-key, survivors-key}
 use Rattle.byte_account.proofs.PlacesLaws.{absent_from_shelf, HasEachKeyOnce-placed, total-without}

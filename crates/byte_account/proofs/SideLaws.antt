@@ -1,15 +1,14 @@
 -- What holds of all that stands on a side holds after each change of the places.
-use Rattle.std.proofs.Common.{◌≡◌, ℕ, Bool, true, false, cond, ◌||◌, List, [], ◌∷◌, length, nat_le, Option, Some, None, IsSome, is_some, bytes_eq, refl, sym, ap, ◌∙◌, subst}
-use Rattle.std.specs.Option.{option_or}
+use Rattle.std.proofs.Common.{◌≡◌, ℕ, Bool, true, false, cond, ◌||◌, List, [], ◌∷◌, length, nat_le, Option, Some, None, bytes_eq, refl, sym, ap, ◌∙◌, subst}
 use Rattle.std.specs.Map.{lookup}
 use Rattle.std.specs.Ordering.{nat_cmp}
 use Rattle.std.specs.Cmp.Lexicographic.{slice_cmp}
 use Rattle.std.specs.FinMap.{FinMap}
 use Rattle.std.specs.FinMap as finite
-use Rattle.arc_core.specs.Places.{Places, HasEachKeyOnce, empty_places, found, others, shelved, brought_to_front, placed, without}
+use Rattle.arc_core.specs.Places.{Places, HasEachKeyOnce, empty_places, others, shelved, brought_to_front, placed, without}
 use Rattle.arc_core.specs.Room.{survivors, evicted}
 use Rattle.byte_account.specs.Sides.{AllOnSides}
-use Rattle.byte_account.proofs.ShelfLists.{IsAbsent, AreApart, IsAbsent-head, AreApart-tail, IsAbsent-differs, same_key, lookup-others, lookup-others_apart, lookup-to_front, lookup-shelved, lookup-shelved_apart}
+use Rattle.byte_account.proofs.ShelfLists.{IsAbsent, AreApart, IsAbsent-head, AreApart-tail, same_key, lookup-others, lookup-others_apart, lookup-to_front, lookup-shelved, lookup-shelved_apart}
 use Rattle.byte_account.proofs.StickyMaps.{get-insert, get-remove}
 use Rattle.byte_account.proofs.EvictionLemmas.{IsAbsent-survivors}
 

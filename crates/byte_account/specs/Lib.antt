@@ -3,6 +3,7 @@ pub mod ByBytes
 pub mod Eviction
 pub mod Filled
 pub mod LeastEviction
+pub mod Numbers
 pub mod PlacesCode
 pub mod Putting
 pub mod ShelfWords

@@ -5,11 +5,13 @@
 //!
 //! - `shelf`: the shelf itself, over its two sides
 //! - `recency_list`: the side of the items that may be evicted, most recently used first
+//! - `numbers`: how a key's place is found there
 //! - `sticky_table`: the side of the sticky items
 //! - `room`, `put`: the answers on room and on putting an item
 //! - `weighs`: what the shelf asks of an item
 #![tactic(auto)]
 
+mod numbers;
 mod put;
 mod recency_list;
 mod room;

@@ -1,15 +1,16 @@
 //! The list of the places that may be evicted, most recently used first.
-ghost use Rattle.std.specs.Prelude.{◌≡◌, ◌+◌, ◌-◌, ◌^◌, ◌<◌, ◌≤◌, List, ℕ, [], ◌∷◌, Option, Some, None, length, bytes_eq, option_map, option_copied, take, nat_le, IfOk, IfErr, IfSome, OnOk, OnErr, MatchResult};
+ghost use Rattle.std.specs.Prelude.{◌≡◌, ◌+◌, ◌-◌, ◌^◌, ◌<◌, ◌≤◌, List, ℕ, [], ◌∷◌, Option, Some, None, length, bytes_eq, option_map, option_copied, take, nat_eq, nat_le, IfOk, IfErr, IfSome, OnOk, OnErr, MatchResult};
 ghost use Rattle.std.specs.List.{IsDistinct};
 ghost use Rattle.std.specs.Map.{keys_of, lookup, set_value};
 ghost use Rattle.arc_core.specs.Places.{others, to_front, weight_of};
 ghost use Rattle.arc_core.specs.Room.{shortest_suffix, survivors};
-ghost use Rattle.byte_account.specs.ByBytes.{by_bytes};
 ghost use Rattle.byte_account.specs.Eviction.{is_last, to_back, PopsDownTo};
 ghost use Rattle.byte_account.specs.LeastEviction.{last_of};
+ghost use Rattle.byte_account.specs.Numbers.{by_names, IsNumbered};
 ghost use Rattle.byte_account.specs.Weight.{place_weight};
 
 use crate::Weighs;
+use crate::numbers::{Name, Named, find, free, hash_of};
 use arc_core::NoMemory;
 use lru::LruCache;
 use std::alloc::Global;
@@ -19,16 +20,18 @@ use std::mem;
 /// The places that may be evicted, by their keys. Contracts see the list of them, most recently used first.
 #[derive(Drop)]
 pub(crate) struct RecencyList<T: Weighs> {
-    // Unbounded, so that it drops nothing by itself.
-    cache: LruCache<Vec<u8>, Option<T>>,
+    // The places by the numbers of their keys. Unbounded, so that it drops nothing by itself.
+    cache: LruCache<u64, Named<T>>,
+    // A key's number is its hash and some k below this.
+    tries: u64,
 }
 
 impl<T: Weighs> Model for RecencyList<T> {
     ghost Value = { List (List ℕ × Option T) };
 
-    ghost view = { λ list. by_bytes (λ key. key.items) list.cache.entries };
+    ghost view = { λ list. by_names (λ named. named.name.items) (λ named. named.place) list.cache.entries };
 
-    ghost invariant = { λ list. list.cache.cap ≡ 2 ^ 64 - 1 };
+    ghost invariant = { λ list. (list.cache.cap ≡ 2 ^ 64 - 1) × IsNumbered (λ named. named.name.items) (λ named. named.place) list.tries list.cache.entries };
 }
 
 impl<T: Weighs> RecencyList<T> {
@@ -37,7 +40,12 @@ impl<T: Weighs> RecencyList<T> {
         ensures { IfOk result (λ list. list ≡ []) }
     {
         let cache = LruCache::unbounded(alloc)?;
-        Ok(RecencyList { cache })
+        Ok(RecencyList { cache, tries: 0 })
+    }
+
+    /// Where the places have their memory from.
+    pub(crate) fn allocator(&self) -> Global {
+        *self.cache.allocator()
     }
 
     /// The number of places.
@@ -52,7 +60,8 @@ impl<T: Weighs> RecencyList<T> {
     pub(crate) fn get(&self, key: &[u8]) -> Option<&Option<T>>
         ensures { option_copied result ≡ lookup (bytes_eq key.now) self.now }
     {
-        self.cache.peek(key)
+        let (_, named) = find(&self.cache, self.tries, key)?;
+        Some(&named.place)
     }
 
     /// Puts something else into the key's place and hands out what stood there. Where the key has no place, hands back
@@ -61,36 +70,51 @@ impl<T: Weighs> RecencyList<T> {
         ensures old { MatchResult result (λ old. lookup (bytes_eq key.now) self.old ≡ Some old) (λ refused. (lookup (bytes_eq key.now) self.old ≡ None) × (refused ≡ place)) }
         ensures new { self.new ≡ set_value (bytes_eq key.now) self.old place }
     {
-        replace_in(&mut self.cache, key, place)
-    }
-
-    /// Makes a place in front, for a key that has none. A refusal hands key and place back and changes nothing.
-    pub(crate) fn put_first(
-        &mut self,
-        key: Vec<u8>,
-        place: Option<T>,
-    ) -> Result<(), (Vec<u8>, Option<T>)>
-        requires { lookup (bytes_eq key.items) self.old ≡ None }
-        ensures ok { OnOk result (self.new ≡ (key.items, place) ∷ self.old) }
-        ensures err { OnErr result (self.new ≡ self.old) }
-        ensures returned { IfErr result (λ pair. pair ≡ (key, place)) }
-    {
-        // The cache holds fewer than 2^63 places, so that a new one pushes none out.
-        let _count = self.cache.len();
-        match self.cache.put(key, place) {
-            Ok(_) => Ok(()),
-            Err(refused) => Err(refused.value),
+        match find(&self.cache, self.tries, key) {
+            Some((number, _)) => Ok(replace_at(&mut self.cache, number, place)),
+            None => Err(place),
         }
     }
 
-    /// Takes the key's place away.
-    pub(crate) fn remove(&mut self, key: &[u8]) -> Option<(Vec<u8>, Option<T>)>
+    /// Makes a place in front, for a key that has none. A refusal hands back what it was given and changes nothing.
+    pub(crate) fn put_first(
+        &mut self,
+        alloc: Global,
+        key: &[u8],
+        place: Option<T>,
+    ) -> Result<(), Option<T>>
+        requires { lookup (bytes_eq key.now) self.old ≡ None }
+        ensures ok { OnOk result (self.new ≡ (key.now, place) ∷ self.old) }
+        ensures err { OnErr result (self.new ≡ self.old) }
+        ensures returned { IfErr result (λ refused. refused ≡ place) }
+    {
+        // The cache holds fewer than 2^63 places, so that some number is free, and a new place pushes none out.
+        let _count = self.cache.len();
+        let hash = hash_of(key);
+        let Some(k) = free(&self.cache, hash) else {
+            return Err(place);
+        };
+        let Ok(name) = Name::from_slice(alloc, key) else {
+            return Err(place);
+        };
+        let named = Named { name, place };
+        match self.cache.put(hash.wrapping_add(k), named) {
+            Ok(_) => {
+                self.tries = self.tries.max(k + 1);
+                Ok(())
+            }
+            Err(refused) => Err(refused.value.1.place),
+        }
+    }
+
+    /// Takes the key's place away, and hands out what stood there.
+    pub(crate) fn remove(&mut self, key: &[u8]) -> Option<Option<T>>
         requires { IsDistinct bytes_eq (keys_of self.old) }
-        ensures key { IfSome result (λ pair. pair.0.items ≡ key.now) }
-        ensures place { option_map (λ pair. pair.1) result ≡ lookup (bytes_eq key.now) self.old }
+        ensures place { result ≡ lookup (bytes_eq key.now) self.old }
         ensures rest { self.new ≡ others key.now self.old }
     {
-        self.cache.pop_entry(key)
+        let (number, _) = find(&self.cache, self.tries, key)?;
+        Some(self.cache.pop(&number)?.place)
     }
 
     /// Moves the key's place to the front, where it has one.
@@ -98,7 +122,9 @@ impl<T: Weighs> RecencyList<T> {
         requires { IsDistinct bytes_eq (keys_of self.old) }
         ensures { self.new ≡ to_front key.now self.old }
     {
-        self.cache.promote(key);
+        if let Some((number, _)) = find(&self.cache, self.tries, key) {
+            self.cache.promote(&number);
+        }
     }
 
     /// The fewest of the last places but the key's that weigh at least `need` bytes together, or `None` where not even
@@ -111,12 +137,12 @@ impl<T: Weighs> RecencyList<T> {
         let _places = self.cache.len();
         let mut freed = 0;
         let mut count = 0;
-        for (name, place) in self.cache.iter().rev() {
+        for (_, named) in self.cache.iter().rev() {
             if freed >= need {
                 return Some(count);
             }
-            if key != name.as_slice() {
-                freed += weigh_place(name.as_slice(), place);
+            if key != named.name.as_slice() {
+                freed += weigh_place(named.name.as_slice(), &named.place);
                 count += 1;
             }
         }
@@ -176,10 +202,10 @@ impl<T: Weighs> RecencyList<T> {
         ensures places { self.new ≡ take (length self.old - 1) self.old }
         ensures freed { weight_of (place_weight T.weigh) self.new + result ≡ weight_of (place_weight T.weigh) self.old }
     {
-        let Some((name, place)) = self.cache.pop_lru() else {
+        let Some((_, named)) = self.cache.pop_lru() else {
             return 0;
         };
-        weigh_place(name.as_slice(), &place)
+        weigh_place(named.name.as_slice(), &named.place)
     }
 
     // Whether the key's place is the last.
@@ -187,7 +213,7 @@ impl<T: Weighs> RecencyList<T> {
         ensures { result ≡ is_last key.now self.now }
     {
         match self.cache.peek_lru() {
-            Some((name, _)) => key == name.as_slice(),
+            Some((_, named)) => key == named.name.as_slice(),
             None => false,
         }
     }
@@ -197,7 +223,9 @@ impl<T: Weighs> RecencyList<T> {
         requires { IsDistinct bytes_eq (keys_of self.old) }
         ensures { self.new ≡ to_back key.now self.old }
     {
-        self.cache.demote(key);
+        if let Some((number, _)) = find(&self.cache, self.tries, key) {
+            self.cache.demote(&number);
+        }
     }
 
     /// Takes all places away.
@@ -205,21 +233,23 @@ impl<T: Weighs> RecencyList<T> {
         ensures { self.new ≡ [] }
     {
         self.cache.clear();
+        self.tries = 0;
     }
 }
 
-fn replace_in<T: Weighs>(
-    cache: &mut LruCache<Vec<u8>, Option<T>>,
-    key: &[u8],
+// Puts something else into the place that has this number and key, and hands out what stood there.
+fn replace_at<T: Weighs>(
+    cache: &mut LruCache<u64, Named<T>>,
+    number: u64,
     place: Option<T>,
-) -> Result<Option<T>, Option<T>>
-    ensures old { MatchResult result (λ old. lookup (λ name. bytes_eq key.now name.items) cache.old.entries ≡ Some old) (λ refused. (lookup (λ name. bytes_eq key.now name.items) cache.old.entries ≡ None) × (refused ≡ place)) }
-    ensures new { cache.new.entries ≡ set_value (λ name. bytes_eq key.now name.items) cache.old.entries place }
+) -> Option<T>
+    ensures old { IfSome (lookup (nat_eq number) cache.old.entries) (λ named. result ≡ named.place) }
+    ensures new { IfSome (lookup (nat_eq number) cache.old.entries) (λ named. cache.new.entries ≡ set_value (nat_eq number) cache.old.entries (record named { place = place })) }
     ensures cap { cache.new.cap ≡ cache.old.cap }
 {
-    match cache.peek_mut(key) {
-        Some(old) => Ok(mem::replace(old, place)),
-        None => Err(place),
+    match cache.peek_mut(&number) {
+        Some(named) => mem::replace(&mut named.place, place),
+        None => place,
     }
 }
 

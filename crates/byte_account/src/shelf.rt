@@ -120,7 +120,15 @@ impl<T: Weighs> Shelf<T> {
         ensures ok { OnOk result (self.new ≡ placed sticky key None self.old) }
         ensures err { OnErr result (self.new ≡ self.old) }
     {
-        make_place(&mut self.list, &mut self.sticky, key, None, sticky)?;
+        let alloc = self.list.allocator();
+        make_place(
+            &mut self.list,
+            &mut self.sticky,
+            alloc,
+            key.bytes(),
+            None,
+            sticky,
+        )?;
         Ok(())
     }
 
@@ -180,10 +188,14 @@ impl<T: Weighs> Shelf<T> {
         let Some(evictions) = self.evictions_for(name, weight, sticky_weight) else {
             return Put::NoRoom;
         };
-        let Ok(key) = Key::copy(alloc, KeyRef::of(name)) else {
-            return Put::NoMemory;
-        };
-        let made = make_place(&mut self.list, &mut self.sticky, key, Some(item), sticky);
+        let made = make_place(
+            &mut self.list,
+            &mut self.sticky,
+            alloc,
+            name,
+            Some(item),
+            sticky,
+        );
         let Ok(()) = made else {
             return Put::NoMemory;
         };
@@ -407,22 +419,22 @@ struct Held {
 fn make_place<T: Weighs>(
     list: &mut RecencyList<T>,
     table: &mut StickyTable<T>,
-    key: Key,
+    alloc: Global,
+    key: &[u8],
     place: Option<T>,
     sticky: bool,
 ) -> Result<(), NoMemory>
-    requires list { lookup (bytes_eq key) list.old ≡ None }
-    requires table { finite.get table.old key ≡ None }
-    ensures list { OnOk result (list.new ≡ listed_at sticky key place list.old) }
-    ensures table { OnOk result (table.new ≡ stuck_at sticky key place table.old) }
+    requires list { lookup (bytes_eq key.now) list.old ≡ None }
+    requires table { finite.get table.old key.now ≡ None }
+    ensures list { OnOk result (list.new ≡ listed_at sticky key.now place list.old) }
+    ensures table { OnOk result (table.new ≡ stuck_at sticky key.now place table.old) }
     ensures err { OnErr result ((list.new ≡ list.old) × (table.new ≡ table.old)) }
 {
-    let key = key.into_bytes();
     if sticky {
-        table.insert(key, place)?;
+        table.insert(alloc, key, place)?;
         return Ok(());
     }
-    let Err(_) = list.put_first(key, place) else {
+    let Err(_) = list.put_first(alloc, key, place) else {
         return Ok(());
     };
     Err(NoMemory)
@@ -487,7 +499,7 @@ fn take_away<T: Weighs>(
     ensures sticky { sticky.new ≡ finite.remove sticky.old key.now }
 {
     match list.remove(key) {
-        Some((_, item)) => Taken {
+        Some(item) => Taken {
             item,
             sticky: false,
         },

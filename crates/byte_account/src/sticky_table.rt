@@ -81,10 +81,16 @@ impl<T: Weighs> StickyTable<T> {
     }
 
     /// Makes a place for the key. A refusal changes nothing.
-    pub(crate) fn insert(&mut self, key: Vec<u8>, place: Option<T>) -> Result<(), NoMemory>
-        ensures ok { OnOk result (self.new ≡ finite.insert self.old key.items place) }
+    pub(crate) fn insert(
+        &mut self,
+        alloc: Global,
+        key: &[u8],
+        place: Option<T>,
+    ) -> Result<(), NoMemory>
+        ensures ok { OnOk result (self.new ≡ finite.insert self.old key.now place) }
         ensures err { OnErr result (self.new ≡ self.old) }
     {
+        let key = Vec::from_slice(alloc, key)?;
         self.table.insert(key, place)?;
         Ok(())
     }
@@ -117,12 +123,13 @@ impl<T: Weighs> StickyTable<T> {
         ensures table { OnOk result ((place : Option T) → lookup (bytes_eq key.now) list.old ≡ Some place → self.new ≡ finite.insert self.old key.now place) }
         ensures err { OnErr result ((list.new ≡ list.old) × (self.new ≡ self.old)) }
     {
+        let name = Vec::from_slice(list.allocator(), key)?;
         self.table.reserve(1)?;
-        let Some((key, place)) = list.remove(key) else {
+        let Some(place) = list.remove(key) else {
             return Ok(0);
         };
-        let weight = weigh_place(key.as_slice(), &place);
-        insert_spare(&mut self.table, key, place);
+        let weight = weigh_place(key, &place);
+        insert_spare(&mut self.table, name, place);
         Ok(weight)
     }
 
@@ -135,16 +142,17 @@ impl<T: Weighs> StickyTable<T> {
         ensures table { OnOk result (self.new ≡ finite.remove self.old key.now) }
         ensures err { OnErr result ((list.new ≡ list.old) × (self.new ≡ self.old)) }
     {
+        let alloc = list.allocator();
         // So that the place can come back where the list is refused memory.
         self.table.reserve(1)?;
-        let Some((key, place)) = self.table.remove_entry(key) else {
+        let Some((name, place)) = self.table.remove_entry(key) else {
             return Ok(0);
         };
-        let weight = weigh_place(key.as_slice(), &place);
-        match list.put_first(key, place) {
+        let weight = weigh_place(key, &place);
+        match list.put_first(alloc, key, place) {
             Ok(()) => Ok(weight),
-            Err((key, place)) => {
-                insert_spare(&mut self.table, key, place);
+            Err(place) => {
+                insert_spare(&mut self.table, name, place);
                 Err(NoMemory)
             }
         }
@@ -163,11 +171,12 @@ impl<T: Weighs> StickyTable<T> {
         ensures table { OnOk result (IsSome (lookup (bytes_eq key.now) list.old) → self.new ≡ finite.insert self.old key.now place) }
         ensures err { OnErr result ((list.new ≡ list.old) × (self.new ≡ self.old)) }
     {
+        let name = Vec::from_slice(list.allocator(), key)?;
         self.table.reserve(1)?;
-        let Some((key, _)) = list.remove(key) else {
+        let Some(_) = list.remove(key) else {
             return Ok(());
         };
-        insert_spare(&mut self.table, key, place);
+        insert_spare(&mut self.table, name, place);
         Ok(())
     }
 
@@ -184,16 +193,17 @@ impl<T: Weighs> StickyTable<T> {
         ensures table { OnOk result (self.new ≡ finite.remove self.old key.now) }
         ensures err { OnErr result ((list.new ≡ list.old) × (self.new ≡ self.old)) }
     {
+        let alloc = list.allocator();
         // So that the place can come back where the list is refused memory.
         self.table.reserve(1)?;
-        let Some((key, old)) = self.table.remove_entry(key) else {
+        let Some((name, old)) = self.table.remove_entry(key) else {
             return Ok(None);
         };
-        match list.put_first(key, place) {
+        match list.put_first(alloc, key, place) {
             Ok(()) => Ok(old),
-            Err((key, refused)) => {
+            Err(refused) => {
                 mem::drop(refused);
-                insert_spare(&mut self.table, key, old);
+                insert_spare(&mut self.table, name, old);
                 Err(NoMemory)
             }
         }

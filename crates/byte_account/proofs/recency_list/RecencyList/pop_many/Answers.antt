@@ -1,4 +1,4 @@
-use Rattle.std.proofs.Common.{◌+◌, arith}
+use Rattle.std.proofs.Common.{arith}
 use Rattle.byte_account.specs.Weight.{place_weight}
 use Rattle.byte_account.proofs.EvictionLemmas.{pop_small, weight-last}
 use Rattle.byte_account.proofs.recency_list.RecencyList.pop_many.Goals as goal

@@ -1,23 +1,26 @@
--- The cache takes the entry out that the list has under the key's bytes.
-use Rattle.std.proofs.Common.{◌∙◌, ap}
-use Rattle.byte_account.specs.ByBytes.{entry_by_bytes}
-use Rattle.std.specs.Option.{option_map}
-use Rattle.byte_account.proofs.ByBytesLemmas.{lookup_entry-by_bytes, remove_entry-by_bytes, place_of_entry, key_of_entry}
-use Rattle.byte_account.proofs.ShelfLists.{remove_entry-others}
+-- The cache takes the entry out that the list has under the key.
+use Rattle.std.proofs.Common.{◌∙◌, ap, sym, option_map}
+use Rattle.byte_account.proofs.NumberLemmas.{lookup-under, remove_entry-under, numbered-remove}
+use Rattle.byte_account.proofs.ShelfLists.{others-absent}
 use Rattle.byte_account.proofs.recency_list.RecencyList.remove.Goals as goal
 
-pub returns-clause-key : goal.returns-clause-key
-returns-clause-key g c =
-    key_of_entry (λ key. key.items) c.args.key.now c.pop_entry.result _
-    (ap (option_map (entry_by_bytes (λ key. key.items))) c.pop_entry.ensures.value ∙ lookup_entry-by_bytes (λ key. key.items) c.args.key.now c.self.inside.cache.entries)
+pub returns-in_err-number-clause-rest : goal.returns-in_err-number-clause-rest
+returns-in_err-number-clause-rest g c = rw (← c.self.view_is) (sym (others-absent c.args.key.now _ c.in_err-number.ensures.absent))
+
+pub invariant_of-self-2 : goal.invariant_of-self-2
+invariant_of-self-2 g c =
+    rw c.pop.ensures.entries (
+      c.self.invariant.0,
+      numbered-remove (λ named. named.name.items) (λ named. named.place) c.self.inside.tries c.self.inside.cache.entries c.self.invariant.1 _ c.args.key.now _ c.in_ok-number.ensures.found,
+    )
 
 pub returns-clause-place : goal.returns-clause-place
 returns-clause-place g c =
     rw (← c.self.view_is)
-    (place_of_entry (λ key. key.items) c.args.key.now c.pop_entry.result _
-    (ap (option_map (entry_by_bytes (λ key. key.items))) c.pop_entry.ensures.value ∙ lookup_entry-by_bytes (λ key. key.items) c.args.key.now c.self.inside.cache.entries))
+    (ap (option_map (λ named. named.place)) (c.in_ok-pop.ensures.value ∙ c.in_ok-number.ensures.found.here)
+    ∙ sym (lookup-under (λ named. named.name.items) (λ named. named.place) _ c.args.key.now _ c.self.inside.cache.entries c.in_ok-number.ensures.found))
 
 pub returns-clause-rest : goal.returns-clause-rest
 returns-clause-rest g c =
-    rw (← c.self.view_is, c.pop_entry.ensures.entries)
-    (remove_entry-by_bytes (λ key. key.items) c.args.key.now c.self.inside.cache.entries ∙ remove_entry-others c.args.key.now _ (rw (← c.self.view_is) at c.requires))
+    rw (← c.self.view_is, c.pop.ensures.entries)
+    (remove_entry-under (λ named. named.name.items) (λ named. named.place) _ c.args.key.now _ c.self.inside.cache.entries c.in_ok-number.ensures.found c.self.invariant.1.apart)

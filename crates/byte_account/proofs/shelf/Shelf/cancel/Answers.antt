@@ -1,5 +1,5 @@
 -- The place that goes is hollow, and so weighs nothing.
-use Rattle.std.proofs.Common.{◌≡◌, Some, refl, ap, sym, ◌∙◌}
+use Rattle.std.proofs.Common.{Some, ap, sym, ◌∙◌}
 use Rattle.arc_core.specs.Places.{found}
 use Rattle.byte_account.specs.Weight.{place_weight, weight_under}
 use Rattle.byte_account.proofs.AccountingLaws.{IsAccounted-without_none}

@@ -1,5 +1,5 @@
 use Rattle.byte_account.specs.Weight.{place_weight}
-use Rattle.byte_account.proofs.RoomLaws.{evictions_past_share, evictions_by}
+use Rattle.byte_account.proofs.RoomLaws.{evictions_by}
 use Rattle.byte_account.proofs.shelf.Shelf.evictions_for.Goals as goal
 
 pub returns-clause-room : goal.returns-clause-room

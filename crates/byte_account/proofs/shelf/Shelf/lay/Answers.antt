@@ -1,4 +1,4 @@
-use Rattle.std.proofs.Common.{◌≡◌, ◌+◌, ◌≤◌, Some, None, refl, subst, sym, ap, ◌∙◌, arith}
+use Rattle.std.proofs.Common.{◌≡◌, ◌+◌, ◌≤◌, Some, None, refl, subst, sym, arith}
 use Rattle.std.specs.FinMap as finite
 use Rattle.arc_core.specs.Places.{Places, found, total_of}
 use Rattle.byte_account.specs.Accounting.{HasShareFor}

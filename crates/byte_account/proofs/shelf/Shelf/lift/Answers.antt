@@ -1,4 +1,4 @@
-use Rattle.std.proofs.Common.{◌≡◌, Some, None, refl, ap, ◌∙◌, sym}
+use Rattle.std.proofs.Common.{None, refl, ap, ◌∙◌, sym}
 use Rattle.arc_core.specs.Places.{refilled}
 use Rattle.byte_account.specs.Weight.{place_weight}
 use Rattle.byte_account.proofs.AccountingLaws.{refilled-absent, IsAccounted-hollowed, IsAccounted-hollowed_none, weight_under-le, weight_of_item, weight_of_none}

@@ -1,4 +1,4 @@
-use Rattle.std.proofs.Common.{◌≡◌, Some, None, refl, ap, ◌∙◌, sym}
+use Rattle.std.proofs.Common.{refl, ap, ◌∙◌, sym}
 use Rattle.arc_core.specs.Places.{without}
 use Rattle.byte_account.specs.Weight.{place_weight}
 use Rattle.byte_account.proofs.FoundLaws.{without-absent}

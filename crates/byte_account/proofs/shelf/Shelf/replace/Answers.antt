@@ -1,4 +1,4 @@
-use Rattle.std.proofs.Common.{◌≡◌, Some, None, not, length, option_map, refl, subst, sym, ap, ◌∙◌}
+use Rattle.std.proofs.Common.{◌≡◌, Some, None, length, option_map, refl, subst, sym, ap, ◌∙◌}
 use Rattle.arc_core.specs.Places.{placed}
 use Rattle.arc_core.specs.Room.{evicted}
 use Rattle.byte_account.specs.Putting.{room_for}

@@ -1,4 +1,4 @@
-use Rattle.std.proofs.Common.{◌≡◌, w64, length, option_map, sym, ap, ◌∙◌}
+use Rattle.std.proofs.Common.{◌≡◌, w64, ap, ◌∙◌}
 use Rattle.std.proofs.lemmas.Int.{to_z-of_z}
 use Rattle.arc_core.specs.Room.{room}
 use Rattle.byte_account.specs.declared.room.Room.TheVariants.{Fits, Nothing}

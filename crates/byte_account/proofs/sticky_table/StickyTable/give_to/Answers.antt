@@ -2,7 +2,7 @@ use Rattle.std.proofs.Common.{◌∷◌, ap, sym, ◌∙◌}
 use Rattle.std.specs.FinMap as finite
 use Rattle.byte_account.specs.ByBytes.{map_by_bytes}
 use Rattle.byte_account.specs.Weight.{place_weight, weight_under}
-use Rattle.byte_account.proofs.ShelfLists.{same_key}
+use Rattle.byte_account.proofs.ShelfLists.{same_key, own_key}
 use Rattle.byte_account.proofs.StickyMaps.{get-map_by_bytes, reordered, removed, put_back, place_of, not_found}
 use Rattle.byte_account.proofs.sticky_table.StickyTable.give_to.Goals as goal
 
@@ -16,8 +16,6 @@ returns-in_default-clause-weight g c =
 pub returns-in-Ok-clause-weight : goal.returns-in-Ok-clause-weight
 returns-in-Ok-clause-weight g c =
     c.weigh_place-weight.ensures
-    ∙ ap (λ k. place_weight g.T.Weighs.weigh k c.in-Some.place) c.as_slice.ensures.value
-    ∙ ap (λ k. place_weight g.T.Weighs.weigh k c.in-Some.place) (sym (same_key c.args.key.now c.in-Some.key.items c.in-Some.ensures.same_key))
     ∙ ap (weight_under (place_weight g.T.Weighs.weigh) c.args.key.now)
     (c.in-Some.ensures.value
     ∙ sym (get-map_by_bytes (λ key. key.items) c.reserve.new.self.entries c.args.key.now)
@@ -39,7 +37,7 @@ returns-in_default-clause-table g c =
 pub returns-in-Ok-clause-list : goal.returns-in-Ok-clause-list
 returns-in-Ok-clause-list g c = λ place found.
     c.in-Ok.ensures.ok
-    ∙ ap (λ p. p ∷ c.args.list.now) (place_of c.args.key.now c.in-Some.key.items c.in-Some.place place c.in-Some.ensures.same_key
+    ∙ ap (λ p. p ∷ c.args.list.now) (place_of c.args.key.now c.args.key.now c.in-Some.place place (own_key c.args.key.now)
     (c.in-Some.ensures.value
     ∙ sym (get-map_by_bytes (λ key. key.items) c.reserve.new.self.entries c.args.key.now)
     ∙ ap (λ m. finite.get m c.args.key.now) (reordered (λ key. key.items) c.self.inside.table.entries c.reserve.new.self.entries c.in_ok-reserve.ensures.entries.2 ∙ c.self.view_is)
@@ -58,8 +56,8 @@ returns-in-Err-clause-err g c =
     let same = reordered (λ key. key.items) c.self.inside.table.entries c.reserve.new.self.entries c.in_ok-reserve.ensures.entries.2 in (
       c.in-Err.ensures.err,
       c.insert_spare.ensures
-          ∙ ap (λ p. finite.insert rest p.0.items p.1) c.in-Err.ensures.returned
-          ∙ ap (λ k. finite.insert rest k c.in-Some.place) (sym (same_key c.args.key.now c.in-Some.key.items c.in-Some.ensures.same_key))
+          ∙ ap (λ p. finite.insert rest c.in-Some.name.items p) c.in-Err.ensures.returned
+          ∙ ap (λ k. finite.insert rest k c.in-Some.place) (sym (same_key c.args.key.now c.in-Some.name.items c.in-Some.ensures.same_key))
           ∙ ap (λ m. finite.insert m c.args.key.now c.in-Some.place)
           (removed (λ key. key.items) c.args.key.now c.reserve.new.self.entries c.remove_entry.new.self.entries c.remove_entry.ensures.updates.1 c.remove_entry.ensures.updates.3 ∙ ap (λ m. finite.remove m c.args.key.now) same)
           ∙ put_back whole c.args.key.now c.in-Some.place

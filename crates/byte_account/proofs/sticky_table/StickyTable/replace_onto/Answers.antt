@@ -1,9 +1,9 @@
-use Rattle.std.proofs.Common.{◌∷◌, ap, sym, ◌∙◌}
+use Rattle.std.proofs.Common.{ap, sym, ◌∙◌}
 use Rattle.std.specs.FinMap as finite
 use Rattle.byte_account.specs.ByBytes.{map_by_bytes}
 use Rattle.byte_account.proofs.PlacesLaws.{some_of}
 use Rattle.byte_account.proofs.ShelfLists.{same_key}
-use Rattle.byte_account.proofs.StickyMaps.{get-map_by_bytes, reordered, removed, put_back, place_of, not_found}
+use Rattle.byte_account.proofs.StickyMaps.{get-map_by_bytes, reordered, removed, put_back, not_found}
 use Rattle.byte_account.proofs.sticky_table.StickyTable.replace_onto.Goals as goal
 
 pub returns-in_default-clause-list : goal.returns-in_default-clause-list
@@ -33,8 +33,7 @@ returns-in-Err-clause-err g c =
     let same = reordered (λ key. key.items) c.self.inside.table.entries c.reserve.new.self.entries c.in_ok-reserve.ensures.entries.2 in (
       c.in-Err.ensures.err,
       c.insert_spare.ensures
-          ∙ ap (λ p. finite.insert rest p.0.items c.in-Some.old) c.in-Err.ensures.returned
-          ∙ ap (λ k. finite.insert rest k c.in-Some.old) (sym (same_key c.args.key.now c.in-Some.key.items c.in-Some.ensures.same_key))
+          ∙ ap (λ k. finite.insert rest k c.in-Some.old) (sym (same_key c.args.key.now c.in-Some.name.items c.in-Some.ensures.same_key))
           ∙ ap (λ m. finite.insert m c.args.key.now c.in-Some.old)
           (removed (λ key. key.items) c.args.key.now c.reserve.new.self.entries c.remove_entry.new.self.entries c.remove_entry.ensures.updates.1 c.remove_entry.ensures.updates.3 ∙ ap (λ m. finite.remove m c.args.key.now) same)
           ∙ put_back whole c.args.key.now c.in-Some.old
