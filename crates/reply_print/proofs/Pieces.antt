@@ -7,8 +7,13 @@ use Rattle.std.proofs.lemmas.List.{take_more, append-nil, take-append-drop}
 use Rattle.std.proofs.lemmas.Grind.{flat_map-append}
 use Rattle.std.proofs.Math.Seq.{drop-cons}
 use Rattle.arc_core.specs.declared.replies.ValueRow.{ValueRow}
-use Rattle.arc_core.specs.ReplyText.{row_text, line_end}
-use Rattle.reply_print.specs.Parts.{row_tail}
+use Rattle.arc_core.specs.declared.rows.Row.{Row}
+use Rattle.arc_core.specs.declared.rows.RowName.{RowName}
+use Rattle.arc_core.specs.declared.rows.RowName.TheVariants as row_name
+use Rattle.arc_core.specs.declared.rows.Tail.{Tail}
+use Rattle.arc_core.specs.BkeyText.{bkey_text}
+use Rattle.arc_core.specs.ReplyText.{row_text, name_text, element_text, elements_text, tail_text, line_end}
+use Rattle.reply_print.specs.Parts.{row_tail, elements_line, field_text, name_rest, flag_part, element_front, element_pieces}
 
 -- a row's text, put together from the left, piece by piece
 row_parts : (a k s f n u e v rest : List ℕ)
@@ -27,6 +32,55 @@ row_pieces row key tail value rest k t v =
 -- the pieces of the answer to a read
 pub answer_pieces : (rows rest : List ℕ) → ((rows ++ codes "END") ++ line_end) ++ rest ≡ rows ++ ((codes "END" ++ line_end) ++ rest)
 answer_pieces rows rest = ap (λ x. x ++ rest) (append_assoc rows (codes "END") line_end) ∙ append_assoc rows (codes "END" ++ line_end) rest
+
+plain_parts : (f n s v e : List ℕ) → (((f ++ n) ++ s) ++ v) ++ e ≡ (f ++ (n ++ s)) ++ (v ++ e)
+plain_parts f n s v e = simp append_assoc refl
+
+field_parts : (k t f n s v e : List ℕ) → (((((k ++ t) ++ f) ++ n) ++ s) ++ v) ++ e ≡ k ++ ((t ++ (f ++ (n ++ s))) ++ (v ++ e))
+field_parts k t f n s v e = simp append_assoc refl
+
+bkey_parts : (b f n s v e : List ℕ) → ((((b ++ f) ++ n) ++ s) ++ v) ++ e ≡ (b ++ (f ++ (n ++ s))) ++ (v ++ e)
+bkey_parts b f n s v e = simp append_assoc refl
+
+named_parts : (name : RowName) (f n v : List ℕ)
+    → ((((name_text name ++ f) ++ n) ++ codes " ") ++ v) ++ line_end ≡ element_pieces (field_text name) (name_rest name ++ (f ++ (n ++ codes " "))) v
+named_parts row_name.Plain f n v = plain_parts f n (codes " ") v line_end
+named_parts (row_name.Field field) f n v = field_parts field (codes " ") f n (codes " ") v line_end
+named_parts (row_name.At bkey) f n v = bkey_parts (bkey_text bkey ++ codes " ") f n (codes " ") v line_end
+
+-- the pieces of an element's text
+pub element_parts : (row : Row) → element_text row ≡ element_pieces (field_text row.name) (element_front row) row.value
+element_parts row = named_parts row.name (flag_part row.eflag) (decimal (length row.value)) row.value
+
+-- the same, and what comes behind it
+pub element_before : (row : Row) (field front value rest : List ℕ) → field ≡ field_text row.name → front ≡ element_front row → value ≡ row.value
+    → element_text row ++ rest ≡ element_pieces field front value ++ rest
+element_before row field front value rest k f v =
+    ap (λ x. x ++ rest) (element_parts row)
+    ∙ ap (λ x. element_pieces x (element_front row) row.value ++ rest) (sym k)
+    ∙ ap (λ x. element_pieces field x row.value ++ rest) (sym f)
+    ∙ ap (λ x. element_pieces field front x ++ rest) (sym v)
+
+-- how many bytes an element's text has
+pub element_len : (row : Row) → length (element_text row) ≡ length (field_text row.name) + length (element_front row) + length row.value + 2
+element_len row =
+    ap length (element_parts row)
+    ∙ omega (arith, length-append (field_text row.name) (element_front row ++ (row.value ++ line_end)), length-append (element_front row) (row.value ++ line_end), length-append row.value line_end)
+
+-- the pieces of an element's line, and what comes behind it
+pub line_pieces : (field front value end rest : List ℕ) → (field ++ (front ++ (value ++ end))) ++ rest ≡ field ++ (front ++ (value ++ (end ++ rest)))
+line_pieces field front value end rest = simp append_assoc refl
+
+answer_parts : (line rows end e rest : List ℕ) → (((line ++ rows) ++ end) ++ e) ++ rest ≡ line ++ (rows ++ ((end ++ e) ++ rest))
+answer_parts line rows end e rest = simp append_assoc refl
+
+-- the parts of an answer of elements, and what comes behind it
+pub elements_parts : (flags : ℕ) (rows : List Row) (tail : Tail) (line end rest : List ℕ) → line ≡ elements_line flags (length rows) → end ≡ tail_text tail ++ line_end
+    → elements_text flags rows tail ++ rest ≡ line ++ (flat_map element_text rows ++ (end ++ rest))
+elements_parts flags rows tail line end rest l e =
+    answer_parts (elements_line flags (length rows)) (flat_map element_text rows) (tail_text tail) line_end rest
+    ∙ ap (λ x. x ++ (flat_map element_text rows ++ ((tail_text tail ++ line_end) ++ rest))) (sym l)
+    ∙ ap (λ x. line ++ (flat_map element_text rows ++ (x ++ rest))) (sym e)
 
 module _ {X : Type 0} (f : X → List ℕ) where
   -- the next of the texts

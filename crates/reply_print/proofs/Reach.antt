@@ -2,11 +2,11 @@
 use Rattle.std.proofs.Common.{◌≡◌, ◌+◌, ◌-◌, ◌≤◌, ◌<◌, ◌^◌, ℕ, List, [], ◌++◌, length, take, drop, Option, Some, None, min, refl, sym, ap, ◌∙◌, arith, append_assoc, length-append, length-drop, subst}
 use Rattle.std.proofs.lemmas.List.{append-nil, take-append-drop}
 use Rattle.std.proofs.Math.Seq.{take-length, take-append_seam, drop-nil, drop-append-add}
-use Rattle.arc_core.specs.Outside.{Linked, Outgoing, then_sent, Rose, WasTaken, FailedToPush, RefusedToPush}
+use Rattle.arc_core.specs.Outside.{Linked, then_sent, Rose, WasTaken, FailedToPush, RefusedToPush}
 use Rattle.reply_print.specs.declared.sending.Unsent.{Unsent}
 use Rattle.reply_print.specs.declared.sending.Unsent.TheVariants as why
 use Rattle.reply_print.specs.declared.wrote.Wrote.TheVariants as wrote
-use Rattle.reply_print.specs.Writing.{IsSentFrom, CountsStay, CountsFault, CountsRefusal, CountsAgain, Writes}
+use Rattle.reply_print.specs.Writing.{IsSentFrom, CountsStay, Writes}
 use Rattle.reply_print.specs.Reaching.{Reached, Stopped, wrote_of}
 
 -- one piece after another

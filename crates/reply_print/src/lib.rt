@@ -2,6 +2,9 @@
 #![tactic(auto)]
 
 mod buffer;
+#[cfg(test)]
+mod element_tests;
+mod elements;
 mod gatherer;
 mod line_from_end;
 mod lines;

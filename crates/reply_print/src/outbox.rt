@@ -1,11 +1,15 @@
 //! Texts that wait, so that those of many units go out in one push.
 ghost use Rattle.std.specs.Prelude.{◌≡◌, ◌+◌, ◌<◌, ◌≤◌, [], ◌++◌, length, drop, nat_le, if◌then◌else◌, MatchBool, codes, IfOk, vec_len, vec_capacity};
 ghost use Rattle.std.specs.List.{flat_map};
-ghost use Rattle.arc_core.specs.ReplyText.{reply_text, row_text, line_end};
+ghost use Rattle.arc_core.specs.ReplyText.{reply_text, row_text, elements_text, line_end};
+ghost use Rattle.reply_print.specs.Parts.{element_pieces};
 ghost use Rattle.reply_print.specs.Waiting.{IsPut, IsPutInPart};
 
-use crate::lines::{END, LINE_END, ROW_START, line_of, number_line, tail_of};
-use arc_core::{NoMemory, Reply, ValueRow};
+use crate::elements::add_elements;
+use crate::lines::{
+    END, LINE_END, ROW_START, elements_line_of, line_of, number_line, tail_line, tail_of,
+};
+use arc_core::{NoMemory, Reply, Row, Tail, ValueRow};
 use std::alloc::Global;
 use std::marker::Model;
 
@@ -72,6 +76,7 @@ impl Outbox {
             Reply::Word(word) => self.add(line_of(*word)),
             Reply::Number(number) => self.add(number_line(*number).bytes()),
             Reply::Values(rows) => self.put_rows(rows.as_slice()),
+            Reply::Rows { flags, rows, tail } => self.put_elements(*flags, rows.as_slice(), *tail),
         }
     }
 
@@ -128,6 +133,53 @@ impl Outbox {
         append(&mut self.bytes, value);
         append(&mut self.bytes, LINE_END);
         true
+    }
+
+    // Puts elements and the lines around them last, all of it or nothing.
+    fn put_elements(&mut self, flags: u32, rows: &[Row], tail: Tail) -> bool
+        ensures { IsPut self.old self.new (elements_text flags rows.now tail) result }
+    {
+        let waited = self.bytes.len();
+        if self.add(elements_line_of(flags, rows.len()).bytes())
+            && add_elements(rows, self)
+            && self.add(tail_line(tail))
+        {
+            return true;
+        }
+        self.bytes.truncate(waited);
+        false
+    }
+
+    /// Puts the pieces of an element's line behind all that waits, where they have room, and tells whether they have.
+    /// Else nothing has changed.
+    pub(crate) fn add_line(&mut self, field: &[u8], front: &[u8], value: &[u8]) -> bool
+        requires field { length field.now ≤ 16000 }
+        requires front { length front.now ≤ 151 }
+        ensures room { result ≡ nat_le (length self.old + length (element_pieces field.now front.now value.now)) 16384 }
+        ensures waits { self.new ≡ (if result then self.old ++ element_pieces field.now front.now value.now else self.old) }
+    {
+        if WAITING_BYTES - self.bytes.len()
+            < field.len() + front.len() + value.len() + LINE_END.len()
+        {
+            return false;
+        }
+        append_field(&mut self.bytes, field);
+        append(&mut self.bytes, front);
+        append(&mut self.bytes, value);
+        append(&mut self.bytes, LINE_END);
+        true
+    }
+}
+
+// Puts a field last, for which there is memory. Most elements have none, and a copy of no bytes costs as much as one of a
+// few.
+fn append_field(kept: &mut Vec<u8>, field: &[u8])
+    requires { vec_len kept.old + length field.now ≤ vec_capacity kept.old }
+    ensures items { kept.new.items ≡ kept.old.items ++ field.now }
+    ensures capacity { vec_capacity kept.old ≤ vec_capacity kept.new }
+{
+    if !field.is_empty() {
+        append(kept, field);
     }
 }
 

@@ -11,7 +11,7 @@ use std::test::Fail;
 
 // At which push, counted from 0, a link stops.
 #[derive(Clone, Copy)]
-enum Stop {
+pub(crate) enum Stop {
     Never,
     Fails(u64),
     Refuses(u64),
@@ -20,11 +20,11 @@ enum Stop {
 
 // A link in memory from which nothing comes, and of whose pushes each takes at most so many bytes.
 #[derive(Drop)]
-struct TestLink {
-    sent: Vec<u8>,
+pub(crate) struct TestLink {
+    pub(crate) sent: Vec<u8>,
     most: usize,
     stop: Stop,
-    pushes: u64,
+    pub(crate) pushes: u64,
     faults: u64,
     refusals: u64,
     agains: u64,
@@ -105,7 +105,7 @@ impl TestLink {
 }
 
 // Sends the text of a reply from the offset on, to a link that takes so many bytes at most at each push.
-fn sent(
+pub(crate) fn sent(
     rt: &impl Abort,
     alloc: Global,
     reply: &Reply,
@@ -120,7 +120,7 @@ fn sent(
     (wrote, link)
 }
 
-const WORDS: [(Word, &[u8]); 16] = [
+const WORDS: [(Word, &[u8]); 29] = [
     (Word::Stored, b"STORED\r\n"),
     (Word::NotStored, b"NOT_STORED\r\n"),
     (Word::Exists, b"EXISTS\r\n"),
@@ -143,6 +143,19 @@ const WORDS: [(Word, &[u8]); 16] = [
     (Word::BadFormat, b"CLIENT_ERROR bad command line format\r\n"),
     (Word::BadChunk, b"CLIENT_ERROR bad data chunk\r\n"),
     (Word::LineTooLong, b"CLIENT_ERROR line too long\r\n"),
+    (Word::Created, b"CREATED\r\n"),
+    (Word::CreatedStored, b"CREATED_STORED\r\n"),
+    (Word::TypeMismatch, b"TYPE_MISMATCH\r\n"),
+    (Word::Unreadable, b"UNREADABLE\r\n"),
+    (Word::Overflowed, b"OVERFLOWED\r\n"),
+    (Word::OutOfRange, b"OUT_OF_RANGE\r\n"),
+    (Word::NotFoundElement, b"NOT_FOUND_ELEMENT\r\n"),
+    (Word::ElementExists, b"ELEMENT_EXISTS\r\n"),
+    (Word::Exist, b"EXIST\r\n"),
+    (Word::NotExist, b"NOT_EXIST\r\n"),
+    (Word::Updated, b"UPDATED\r\n"),
+    (Word::Replaced, b"REPLACED\r\n"),
+    (Word::DeletedDropped, b"DELETED_DROPPED\r\n"),
 ];
 
 const NUMBERS: [(u64, &[u8]); 5] = [
@@ -247,9 +260,33 @@ fn tells_up_to_where_rows_were_sent(rt: HostRuntime) -> Result<(), Fail> {
     for from in [0, 5, 40] {
         for (most, pushes) in [(1, THREE_ROWS.len() - from), (3, 10), (usize::MAX, 1)] {
             for place in 0..pushes as u64 {
-                check_stop(&rt, rt.alloc(), &reply, from, most, Stop::Fails(place));
-                check_stop(&rt, rt.alloc(), &reply, from, most, Stop::Refuses(place));
-                check_stop(&rt, rt.alloc(), &reply, from, most, Stop::Waits(place));
+                check_stop(
+                    &rt,
+                    rt.alloc(),
+                    &reply,
+                    THREE_ROWS,
+                    from,
+                    most,
+                    Stop::Fails(place),
+                );
+                check_stop(
+                    &rt,
+                    rt.alloc(),
+                    &reply,
+                    THREE_ROWS,
+                    from,
+                    most,
+                    Stop::Refuses(place),
+                );
+                check_stop(
+                    &rt,
+                    rt.alloc(),
+                    &reply,
+                    THREE_ROWS,
+                    from,
+                    most,
+                    Stop::Waits(place),
+                );
             }
         }
     }
@@ -257,11 +294,19 @@ fn tells_up_to_where_rows_were_sent(rt: HostRuntime) -> Result<(), Fail> {
 }
 
 // Checks what is answered where the link stops, and what was sent before.
-fn check_stop(rt: &impl Abort, alloc: Global, reply: &Reply, from: usize, most: usize, stop: Stop) {
+pub(crate) fn check_stop(
+    rt: &impl Abort,
+    alloc: Global,
+    reply: &Reply,
+    text: &[u8],
+    from: usize,
+    most: usize,
+    stop: Stop,
+) {
     let (wrote, link) = sent(rt, alloc, reply, from, most, stop);
     let upto = from.saturating_add(link.sent.len());
-    assert!(rt; from <= upto && upto < THREE_ROWS.len());
-    assert!(rt; link.sent.as_slice() == &THREE_ROWS[from..upto]);
+    assert!(rt; from <= upto && upto < text.len());
+    assert!(rt; link.sent.as_slice() == &text[from..upto]);
     let (place, answer, counts) = match stop {
         Stop::Never => panic!(rt; "no stop"),
         Stop::Fails(place) => (place, Wrote::Failed(upto as u64), (1, 0, 0)),
@@ -345,7 +390,7 @@ fn texts_wait_where_they_have_room(rt: HostRuntime) -> Result<(), Fail> {
 }
 
 // So many equal bytes.
-fn filled(rt: &impl Abort, alloc: Global, len: usize) -> Result<Vec<u8>, AllocError> {
+pub(crate) fn filled(rt: &impl Abort, alloc: Global, len: usize) -> Result<Vec<u8>, AllocError> {
     assert!(rt; len < 4_096);
     vec![in alloc; b'v'; len]
 }

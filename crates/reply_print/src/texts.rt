@@ -7,6 +7,7 @@ ghost use Rattle.reply_print.specs.Writing.{Writes};
 ghost use Rattle.reply_print.specs.Reaching.{PutsOut};
 
 use crate::Wrote;
+use crate::elements::{elements_len, put_elements};
 use crate::gatherer::Gatherer;
 use crate::lines::{END, LINE_END, ROW_START, line_of, number_line, tail_of};
 use crate::sending::{Unsent, send};
@@ -28,6 +29,7 @@ pub(crate) fn capped_len(reply: &Reply) -> u64
         Reply::Word(word) => line_of(*word).len() as u64,
         Reply::Number(number) => number_line(*number).bytes().len() as u64,
         Reply::Values(rows) => rows_len(rows.as_slice()).saturating_add(END.len() as u64),
+        Reply::Rows { flags, rows, tail } => elements_len(*flags, rows.as_slice(), *tail),
     }
 }
 
@@ -68,7 +70,7 @@ pub fn write_reply<L: Link>(reply: &Reply, from: u64, link: &mut L) -> Wrote
     match reply {
         Reply::Word(word) => write_word(*word, from, link),
         Reply::Number(number) => write_line(number_line(*number).bytes(), from, link),
-        Reply::Values(rows) => write_rows(rows.as_slice(), from, link),
+        Reply::Values(_) | Reply::Rows { .. } => write_pieces(reply, from, link),
     }
 }
 
@@ -98,38 +100,69 @@ fn write_line<L: Link>(line: &[u8], from: u64, link: &mut L) -> Wrote
     }
 }
 
-// Sends the rows and the end of the answer, from the offset on.
-fn write_rows<L: Link>(rows: &[ValueRow], from: u64, link: &mut L) -> Wrote
-    requires fits { length (flat_map row_text rows.now ++ codes "END" ++ line_end) < 2 ^ 64 }
-    requires within { from ≤ length (flat_map row_text rows.now ++ codes "END" ++ line_end) }
+// Sends a text that lies in many pieces, from the offset on.
+fn write_pieces<L: Link>(reply: &Reply, from: u64, link: &mut L) -> Wrote
+    requires fits { length (reply_text reply.now) < 2 ^ 64 }
+    requires within { from ≤ length (reply_text reply.now) }
     ensures writes { Writes (outgoing (L.sent link.old) (L.write_faults link.old) (L.refusals link.old))
-        (outgoing (L.sent link.new) (L.write_faults link.new) (L.refusals link.new)) (L.agains link.old) (L.agains link.new) (flat_map row_text rows.now ++ codes "END" ++ line_end) from result }
+        (outgoing (L.sent link.new) (L.write_faults link.new) (L.refusals link.new)) (L.agains link.old) (L.agains link.new) (reply_text reply.now) from result }
     ensures incoming { incoming (L.left link.new) (L.read_faults link.new) ≡ incoming (L.left link.old) (L.read_faults link.old) }
 {
     let mut gatherer = Gatherer::new(from);
-    match put_answer(&mut gatherer, rows, link) {
+    match put_answer(&mut gatherer, reply, link) {
         Ok(()) => Wrote::Done,
         Err(unsent) => unsent.wrote(),
     }
 }
 
-// Puts out the rows and the end of the answer, and nothing waits then.
-fn put_answer<L: Link>(
-    gatherer: &mut Gatherer,
-    rows: &[ValueRow],
-    link: &mut L,
-) -> Result<(), Unsent>
+// Puts out the text of the reply, and nothing waits then.
+fn put_answer<L: Link>(gatherer: &mut Gatherer, reply: &Reply, link: &mut L) -> Result<(), Unsent>
     ensures puts { PutsOut
         (linked (L.left link.old) (L.read_faults link.old) (L.sent link.old) (L.write_faults link.old)
         (L.refusals link.old) (L.agains link.old))
         (linked (L.left link.new) (L.read_faults link.new) (L.sent link.new) (L.write_faults link.new)
         (L.refusals link.new) (L.agains link.new))
-        gatherer.old gatherer.new (flat_map row_text rows.now ++ codes "END" ++ line_end) result }
+        gatherer.old gatherer.new (reply_text reply.now) result }
     ensures empty { OnOk result (gatherer.new.waiting ≡ []) }
 {
-    put_rows(gatherer, rows, link)?;
-    gatherer.put(END, link)?;
+    put_text(gatherer, reply, link)?;
     gatherer.flush(link)
+}
+
+// Puts out the text of the reply.
+fn put_text<L: Link>(gatherer: &mut Gatherer, reply: &Reply, link: &mut L) -> Result<(), Unsent>
+    ensures { PutsOut
+        (linked (L.left link.old) (L.read_faults link.old) (L.sent link.old) (L.write_faults link.old)
+        (L.refusals link.old) (L.agains link.old))
+        (linked (L.left link.new) (L.read_faults link.new) (L.sent link.new) (L.write_faults link.new)
+        (L.refusals link.new) (L.agains link.new))
+        gatherer.old gatherer.new (reply_text reply.now) result }
+{
+    match reply {
+        Reply::Word(word) => gatherer.put(line_of(*word), link),
+        Reply::Number(number) => gatherer.put(number_line(*number).bytes(), link),
+        Reply::Values(rows) => put_found(gatherer, rows.as_slice(), link),
+        Reply::Rows { flags, rows, tail } => {
+            put_elements(gatherer, *flags, rows.as_slice(), *tail, link)
+        }
+    }
+}
+
+// Puts out the rows and the end of the answer.
+fn put_found<L: Link>(
+    gatherer: &mut Gatherer,
+    rows: &[ValueRow],
+    link: &mut L,
+) -> Result<(), Unsent>
+    ensures { PutsOut
+        (linked (L.left link.old) (L.read_faults link.old) (L.sent link.old) (L.write_faults link.old)
+        (L.refusals link.old) (L.agains link.old))
+        (linked (L.left link.new) (L.read_faults link.new) (L.sent link.new) (L.write_faults link.new)
+        (L.refusals link.new) (L.agains link.new))
+        gatherer.old gatherer.new (flat_map row_text rows.now ++ codes "END" ++ line_end) result }
+{
+    put_rows(gatherer, rows, link)?;
+    gatherer.put(END, link)
 }
 
 // Puts out the rows.

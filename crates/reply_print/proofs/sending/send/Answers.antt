@@ -1,4 +1,4 @@
-use Rattle.std.proofs.Common.{◌∙◌, ◌++◌, sym, take, drop, ap, min, ◌+◌, ◌-◌, ◌^◌}
+use Rattle.std.proofs.Common.{◌∙◌, ◌++◌, sym, drop, ap, min, ◌+◌, ◌-◌, ◌^◌}
 use Rattle.std.proofs.lemmas.List.{length-take-le}
 use Rattle.reply_print.proofs.Reach.{went_on, took_some, stopped_failed, stopped_refused, stopped_again, take_rest}
 use Rattle.reply_print.proofs.sending.send.Goals as goal

@@ -1,15 +1,13 @@
-use Rattle.std.proofs.Common.{[], ◌++◌}
-use Rattle.std.specs.Prelude.{codes}
-use Rattle.std.specs.List.{flat_map}
-use Rattle.arc_core.specs.ReplyText.{row_text, line_end}
+use Rattle.std.proofs.Common.{[]}
+use Rattle.arc_core.specs.ReplyText.{reply_text}
 use Rattle.arc_core.specs.Outside.{linked}
 use Rattle.reply_print.proofs.Reach.{began, none_put, none_left, all_sent, stopped_writes}
-use Rattle.reply_print.proofs.texts.write_rows.Goals as goal
+use Rattle.reply_print.proofs.texts.write_pieces.Goals as goal
 
 pub returns-in-Ok : goal.returns-in-Ok
 returns-in-Ok g c =
     let start = linked (g.L.Link.left c.args.link.now) (g.L.Link.read_faults c.args.link.now) (g.L.Link.sent c.args.link.now) (g.L.Link.write_faults c.args.link.now) (g.L.Link.refusals c.args.link.now) (g.L.Link.agains c.args.link.now) in
-    let text = (flat_map row_text c.args.rows.now ++ codes "END") ++ line_end in
+    let text = reply_text c.args.reply.now in
     let gatherer = c.new-gatherer.ensures in
     let was = began start c.args.from c.new-gatherer.result.at text _ c.requires.within c.requires.fits gatherer.at (none_put c.args.from c.new-gatherer.result.skip text c.new-gatherer.result.waiting gatherer.skip gatherer.empty) in
     let reached = c.in-Ok.ensures.puts start c.args.from text [] was in
@@ -22,7 +20,7 @@ returns-in-Ok g c =
 pub returns-in-Err : goal.returns-in-Err
 returns-in-Err g c =
     let start = linked (g.L.Link.left c.args.link.now) (g.L.Link.read_faults c.args.link.now) (g.L.Link.sent c.args.link.now) (g.L.Link.write_faults c.args.link.now) (g.L.Link.refusals c.args.link.now) (g.L.Link.agains c.args.link.now) in
-    let text = (flat_map row_text c.args.rows.now ++ codes "END") ++ line_end in
+    let text = reply_text c.args.reply.now in
     let gatherer = c.new-gatherer.ensures in
     let was = began start c.args.from c.new-gatherer.result.at text _ c.requires.within c.requires.fits gatherer.at (none_put c.args.from c.new-gatherer.result.skip text c.new-gatherer.result.waiting gatherer.skip gatherer.empty) in
     let stopped = c.in-Err.ensures.puts start c.args.from text [] was in
