@@ -38,12 +38,12 @@ last_word-is_other kind refused None list front back at spelled end = rw (at, sp
 last_word-is_other kind refused (Some answer) list front back at spelled end =
     rw (at, spelled.1, is_noreply spelled.0 answer spelled.2, refused) refl
 
-noreply-is_other : {A B : Type 0} (kind : List ℕ → Option B) (result : Option Answer → A) → kind (codes "noreply") ≡ None
+pub noreply-is_other : {A B : Type 0} (kind : List ℕ → Option B) (result : Option Answer → A) → kind (codes "noreply") ≡ None
     → IsOther (one kind) (followed_by noreply (λ silent. gives (result silent)))
 noreply-is_other kind result refused = λ back a spelled. last_word-is_other kind refused spelled.0 back spelled.1 spelled.2 spelled.3 spelled.4 spelled.5.0
 
 -- `[noreply]` is clear before the end of the line
-noreply-is_clear : {A : Type 0} (result : Option Answer → A) → IsClear (followed_by noreply (λ silent. gives (result silent)))
+pub noreply-is_clear : {A : Type 0} (result : Option Answer → A) → IsClear (followed_by noreply (λ silent. gives (result silent)))
 noreply-is_clear result = (perhaps-is_clear _ _ (one-is_clear _ _) (λ back a spelled. rw (spelled.0) refl), λ silent. tt)
 
 -- the rows

@@ -22,3 +22,4 @@ pub use lines::{
     KvHeads, bad_block_is_no_request, head_is_no_fault, line_spells_one_head, quit_is_no_request,
     read_line,
 };
+pub use parts::{next_exptime, next_from_1, no_reply};

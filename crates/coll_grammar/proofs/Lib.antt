@@ -1,0 +1,3 @@
+pub mod CollectionRows
+pub mod HeadLemmas
+pub mod PartLemmas
