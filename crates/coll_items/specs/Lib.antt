@@ -1,0 +1,3 @@
+pub mod Changing
+pub mod Holding
+pub mod Planning
