@@ -2,14 +2,17 @@
 use Rattle.std.proofs.Common.{◌≡◌, ℕ, ◌+◌, ◌-◌, ◌%◌, ◌^◌, ◌<◌, ◌≤◌, List, [], ◌∷◌, ◌++◌, length, get_or, take, drop, set, refl, ap, sym, ◌∙◌, subst, inr, arith}
 use Rattle.std.specs.List.{All, between, remove_range}
 use Rattle.std.proofs.lemmas.List.{length-append, length-set, get_or-set_other, get_or_append_left, length-take-le, take-append-drop, length-take, length-drop, append-nil, nil_from_length}
+use Rattle.std.proofs.Math.Nat.{mod-add-mod, add-mod-mod}
+use Rattle.std.proofs.lemmas.List.Sums.{sum_by-append}
 use Rattle.std.proofs.lemmas.List.Elements.{All-set, All-head}
 use Rattle.arc_core.specs.declared.bkeys.Bkey.{Bkey}
 use Rattle.arc_core.specs.declared.trees.Elem.{Elem}
-use Rattle.arc_core.specs.TreeContents.{elem_sizes}
+use Rattle.arc_core.specs.TreeContents.{elem_size, elem_sizes}
 use Rattle.btree_nodes.specs.declared.runs.Run.{Run}
 use Rattle.btree_nodes.specs.Subtree.{Subtree, all_elements, branch_of, height_over, IsBranch, IsChildAt}
 use Rattle.btree_nodes.specs.NodeRules.{IsLeast}
 use Rattle.btree_nodes.specs.Rooting.{IsTrimmedRoot}
+use Rattle.btree_nodes.proofs.RunLemmas.{removed_more, between_more, between_both}
 use Rattle.btree_nodes.specs.Removal.{IsRun, IsTrimmed, IsLooseAt, IsLooseBranch, IsMended}
 use Rattle.btree_nodes.proofs.BalanceLemmas.{branch_dense}
 use Rattle.btree_nodes.proofs.ChildrenLemmas.{all_split, set_elements}
@@ -112,4 +115,33 @@ fallen old only children room place limit run is trimmed is_branch not_full =
       removed = subst (λ ys. IsRun old.elements place limit ys run) elements trimmed.removed;
       level = inr (omega (arith, trimmed.height, height), was.high, was.wide, subst (λ (x : Subtree). x.width < 32) there (not_full only), was.roomy);
       dense = was.dense;
+    }
+
+-- What is left of the removal of a range: so many of its last elements are still there.
+pub record IsPartGone (xs ys : List Elem) (low high left size : ℕ) : Type 0 where
+  pub order : low ≤ high
+  pub within : high ≤ length xs
+  pub left_is : left ≤ high - low
+  pub elements : ys ≡ remove_range xs low (high - left)
+  pub size_is : size ≡ elem_sizes (between low (high - left) xs) % 2 ^ 64
+
+-- one more run of it
+pub gone_more : (xs ys new : List Elem) (low high left size : ℕ) (run : Run) → IsPartGone xs ys low high left size → IsRun ys low left new run → IsPartGone xs new low high (left - run.count) ((size + run.size) % 2 ^ 64)
+gone_more xs ys new low high left size run gone is =
+    let m = high - left in
+    let k = run.count in
+    let cut = subst (λ zs. IsRun zs low left new run) gone.elements is in
+    let most = cut.most in
+    let order : low ≤ m = omega (arith, gone.order, gone.left_is) in
+    let within : m + k ≤ length xs = omega (arith, most, gone.within, gone.left_is) in
+    let end : m + k ≡ high - (left - k) = omega (arith, most, gone.left_is) in
+    let sizes : elem_sizes (between low m xs) + elem_sizes (between m (m + k) xs) ≡ elem_sizes (between low (m + k) xs) = sym (sum_by-append elem_size (between low m xs) (between m (m + k) xs)) ∙ ap elem_sizes (sym (between_both xs low m k order)) in
+    record {
+      order = gone.order;
+      within = gone.within;
+      left_is = omega (arith, gone.left_is);
+      elements = cut.elements ∙ (removed_more xs low m k order within ∙ ap (λ n. remove_range xs low n) end);
+      size_is = ap (λ n. (n + run.size) % 2 ^ 64) gone.size_is ∙ (mod-add-mod (elem_sizes (between low m xs)) (2 ^ 64) run.size
+          ∙ (ap (λ n. (elem_sizes (between low m xs) + n) % 2 ^ 64) (cut.size ∙ ap (λ zs. elem_sizes zs % 2 ^ 64) (between_more xs low m k order within))
+          ∙ (add-mod-mod (elem_sizes (between low m xs)) (elem_sizes (between m (m + k) xs)) (2 ^ 64) ∙ (ap (λ n. n % 2 ^ 64) sizes ∙ ap (λ n. elem_sizes (between low n xs) % 2 ^ 64) end))));
     }

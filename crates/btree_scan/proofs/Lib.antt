@@ -1,3 +1,4 @@
 pub mod FoundLemmas
-pub mod SpanLemmas
 pub mod LeafLemmas
+pub mod SeenLemmas
+pub mod SpanLemmas

@@ -3,6 +3,8 @@
 
 mod cursors;
 mod positions;
+#[cfg(test)]
+mod tests;
 
-pub use cursors::Cursor;
+pub use cursors::{Cursor, count_in};
 pub use positions::{Position, at_position, position_of};

@@ -1,0 +1,4 @@
+pub mod AroundLemmas
+pub mod EndLemmas
+pub mod SeenLemmas
+pub mod TrimLemmas

@@ -1,0 +1,25 @@
+-- What a test has seen of a tree.
+use Rattle.std.proofs.Common.{◌≡◌, ℕ, true, false, Bool, if◌then◌else◌, List, refl, ap, ◌∙◌, Some}
+use Rattle.std.specs.List.{slice_get}
+use Rattle.std.proofs.lemmas.Option.{get_or_from_slice_get}
+use Rattle.arc_core.specs.declared.bkeys.Bkey.{Bkey}
+use Rattle.arc_core.specs.declared.bkeys.Bkey.TheVariants.{Number}
+use Rattle.arc_core.specs.declared.trees.Elem.{Elem}
+use Rattle.arc_core.specs.BkeyOrder.{are_of_one_kind}
+use Rattle.arc_core.specs.TreeContents.{place_of}
+use Rattle.btree_nodes.specs.Ways.{FitsKind, has_bkey}
+use Rattle.btree_scan.specs.declared.positions.Position.TheVariants.{At, Before}
+use Rattle.btree_scan.specs.Positions.{position_in}
+
+absent_by : (b : Bool) (place n : ℕ) → Before place ≡ (if b then At n else Before n) → b ≡ false
+absent_by true place n is = cc is
+absent_by false place n is = refl
+
+-- a bkey before which so many stand is not there
+pub absent_before : (bkey : Bkey) (xs : List Elem) (place : ℕ) → Before place ≡ position_in bkey xs → has_bkey bkey xs ≡ false
+absent_before bkey xs place is = absent_by (has_bkey bkey xs) place (place_of bkey xs) is
+
+-- a number fits a tree whose first bkey is a number
+pub number_fits : (bkey : Bkey) (xs : List Elem) (x : Elem) (m n : ℕ) → slice_get xs 0 ≡ Some x → x.bkey ≡ Number m → bkey ≡ Number n → FitsKind bkey xs
+number_fits bkey xs x m n first x_is is d some =
+    ap (λ (y : Elem). are_of_one_kind y.bkey bkey) (get_or_from_slice_get xs 0 x d first) ∙ (ap (λ b. are_of_one_kind b bkey) x_is ∙ ap (λ b. are_of_one_kind (Number m) b) is)

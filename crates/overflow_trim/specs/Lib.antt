@@ -1,0 +1,2 @@
+pub mod NewPlace
+pub mod Plans
