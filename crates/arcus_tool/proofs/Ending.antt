@@ -76,10 +76,11 @@ module _ (opening : CacheState) (before : Outside) (state : CacheState) (coming 
     counts = counts;
   }
 
-  -- a session that broke off at a failed push is over
-  pub over_at_write_fault : (out : Outgoing) → length taken ≤ 2 ^ 40 → BrokeOff (start_of opening before) (stand state coming out) taken stop.Failed
-      → IsOver opening before (stand state coming out) out incoming status.WriteFault
-  over_at_write_fault out few broke = λ rules. record {
+  -- a session that broke off is over
+  broke_over : (ended : Status) (cause : Stop) (out : Outgoing) (broke : BrokeOff (start_of opening before) (stand state coming out) taken cause)
+      → Ends ended before (outside incoming out coming) taken broke.units broke.tail broke.text → CountsOnly ended before (outside incoming out coming)
+      → IsOver opening before (stand state coming out) out incoming ended
+  broke_over ended cause out broke ends counts = λ rules. record {
     taken = taken;
     units = broke.units;
     tail = broke.tail;
@@ -94,31 +95,21 @@ module _ (opening : CacheState) (before : Outside) (state : CacheState) (coming 
     seconds = broke.executed.seconds;
     own = broke.executed.own;
     rules = rules;
-    ends = record { fault = broke.has_cause.0; few = few; sent = broke.sent };
-    counts = (reads, broke.has_cause.1);
+    ends = ends;
+    counts = counts;
   }
 
-  -- a session that broke off since the sink was refused memory is over
+  -- at a failed push
+  pub over_at_write_fault : (out : Outgoing) → length taken ≤ 2 ^ 40 → BrokeOff (start_of opening before) (stand state coming out) taken stop.Failed
+      → IsOver opening before (stand state coming out) out incoming status.WriteFault
+  over_at_write_fault out few broke =
+      broke_over status.WriteFault stop.Failed out broke (record { fault = broke.has_cause.0; few = few; sent = broke.sent }) (reads, broke.has_cause.1)
+
+  -- since the sink was refused memory
   pub over_without_memory : (out : Outgoing) → length taken ≤ 2 ^ 40 → BrokeOff (start_of opening before) (stand state coming out) taken stop.NoMemory
       → IsOver opening before (stand state coming out) out incoming status.NoMemory
-  over_without_memory out few broke = λ rules. record {
-    taken = taken;
-    units = broke.units;
-    tail = broke.tail;
-    entries = broke.entries;
-    closing = state;
-    text = broke.text;
-    took = took;
-    spans = broke.spans;
-    last = broke.last;
-    tells = broke.tells;
-    legal = broke.executed.legal;
-    seconds = broke.executed.seconds;
-    own = broke.executed.own;
-    rules = rules;
-    ends = record { refused = inr broke.has_cause.1; few = few; sent = broke.sent };
-    counts = (reads, broke.has_cause.0);
-  }
+  over_without_memory out few broke =
+      broke_over status.NoMemory stop.NoMemory out broke (record { refused = inr broke.has_cause.1; few = few; sent = broke.sent }) (reads, broke.has_cause.0)
 
   module _ (out out' : Outgoing) (waiting waiting' : List ℕ) (few : length taken ≤ 2 ^ 40) where
     -- the session is over where texts waited, or the flush was tried and failed

@@ -182,6 +182,12 @@ abbrev pub Takes : Stand → Stand → List ℕ → Progress → List ℕ → Re
 Takes from to taken progress piece (Ok count) = GoesOn from to taken progress (drop count piece)
 Takes from to taken progress piece (Err cause) = Stops from to taken (length piece) cause
 
+-- Wherever the session began: where it went on up to the one stand, with this piece behind it, it took so many bytes of the
+-- piece up to the other and goes on, or it stops.
+abbrev pub TakesOn : (here : Stand) (progress : Progress) (there : Stand) (progress' : Progress) → List ℕ → Result ℕ Stop → Type 0
+TakesOn here progress there progress' piece result =
+    (from : Stand) (taken : List ℕ) → GoesOn from here taken progress piece → Takes from there taken progress' piece result
+
 -- A unit is the front of the piece, so many bytes of it, and was handled so.
 abbrev pub HandlesFront : List ℕ → Stand → Stand → ℕ → Result Prim.Unit Stop → Type 0
 HandlesFront piece from to count result =

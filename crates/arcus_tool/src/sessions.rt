@@ -1,7 +1,7 @@
 //! One session, from a source to a sink.
 ghost use Rattle.std.specs.Prelude.{◌≡◌, ◌+◌, ◌^◌, ◌<◌, ◌≤◌, ℕ, List, [], length, None, IfOk, OnOk, vec_len};
 ghost use Rattle.arc_core.specs.Outside.{incoming, outgoing, then_sent};
-ghost use Rattle.arc_core.specs.CacheState.{CacheState};
+ghost use Rattle.arc_core.specs.CacheState.{CacheState, opening_state};
 ghost use Rattle.arc_core.specs.Grammar.{line_needs};
 ghost use Rattle.frame_reader.specs.Progress.{StandsFor, ready_unit};
 ghost use Rattle.arcus_tool.specs.Handling.{stand, IsBetweenUnits};
@@ -221,31 +221,27 @@ pub fn session<S: Source, K: Sink, C: Clock>(
     beginnings_agree();
     rest_begins_with_no_unit();
     units_stay();
-    run_session(alloc, limit, share, source, sink, clock)
+    let Some(settings) = Settings::of_shares(limit, share) else {
+        unreachable!();
+    };
+    run_session(alloc, settings, source, sink, clock)
 }
 
 // Takes the memory of a session, and runs it.
 fn run_session<S: Source, K: Sink, C: Clock>(
     alloc: Global,
-    limit: u32,
-    share: u32,
+    settings: Settings,
     source: &mut S,
     sink: &mut K,
     clock: &mut C,
 ) -> Status
-    requires at_least { 1 ≤ limit }
-    requires at_most { limit ≤ 4096 }
-    requires percent { share ≤ 100 }
-    ensures { IsSession (opening_of limit share)
+    ensures { IsSession (opening_state settings.limit settings.share)
         (outside (incoming (S.left source.old) (S.read_faults source.old))
         (outgoing (K.sent sink.old) (K.write_faults sink.old) (K.refusals sink.old)) (C.coming clock.old))
         (outside (incoming (S.left source.new) (S.read_faults source.new))
         (outgoing (K.sent sink.new) (K.write_faults sink.new) (K.refusals sink.new)) (C.coming clock.new))
         result }
 {
-    let Some(settings) = Settings::of_shares(limit, share) else {
-        unreachable!();
-    };
     let Ok(mut cache) = Cache::new(alloc, settings) else {
         return Status::NoMemory;
     };

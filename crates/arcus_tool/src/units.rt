@@ -7,7 +7,7 @@ ghost use Rattle.arc_core.specs.ReplyText.{reply_text, word_line};
 ghost use Rattle.arc_core.specs.SessionText.{sent_for};
 ghost use Rattle.frame_reader.specs.Units.{whole_of};
 ghost use Rattle.arcus_tool.specs.Output.{Sends};
-ghost use Rattle.arcus_tool.specs.Handling.{Stand, stand, IsTold, TellsHead, HasItsBlock, HandlesLine, HandlesUnit, IsBetweenUnits, GoesOn, Takes, TakesAll, TakesFront};
+ghost use Rattle.arcus_tool.specs.Handling.{Stand, stand, IsTold, TellsHead, HasItsBlock, HandlesLine, HandlesUnit, IsBetweenUnits, GoesOn, TakesOn, TakesAll, TakesFront};
 
 use crate::joined::Gathers;
 use crate::stops::Stop;
@@ -216,12 +216,10 @@ fn feed_unit<E: Executor, C: Clock, L: Gathers>(
     requires at_start { IsBetweenUnits frames.old }
     ensures count { IfOk result (λ count. (0 < count) × (count ≤ length piece.now)) }
     ensures at_end { OnOk result (IsBetweenUnits frames.new) }
-    ensures goes { (from : Stand) (taken : List ℕ) → GoesOn from
-        (stand (E.state exec.old) (C.coming clock.old) (outgoing (L.sent link.old) (L.write_faults link.old) (L.refusals link.old)))
-        taken frames.old piece.now
-        → Takes from
-        (stand (E.state exec.new) (C.coming clock.new) (outgoing (L.sent link.new) (L.write_faults link.new) (L.refusals link.new)))
-        taken frames.new piece.now result }
+    ensures goes { TakesOn
+        (stand (E.state exec.old) (C.coming clock.old) (outgoing (L.sent link.old) (L.write_faults link.old) (L.refusals link.old))) frames.old
+        (stand (E.state exec.new) (C.coming clock.new) (outgoing (L.sent link.new) (L.write_faults link.new) (L.refusals link.new))) frames.new
+        piece.now result }
     ensures incoming { incoming (L.left link.new) (L.read_faults link.new) ≡ incoming (L.left link.old) (L.read_faults link.old) }
 {
     let count = frames.feed(piece);
@@ -250,12 +248,10 @@ fn take_unit<E: Executor, C: Clock, L: Gathers>(
     requires at_start { IsBetweenUnits frames.old }
     ensures count { IfOk result (λ count. (0 < count) × (count ≤ length piece.now)) }
     ensures at_end { OnOk result (IsBetweenUnits frames.new) }
-    ensures goes { (from : Stand) (taken : List ℕ) → GoesOn from
-        (stand (E.state exec.old) (C.coming clock.old) (outgoing (L.sent link.old) (L.write_faults link.old) (L.refusals link.old)))
-        taken frames.old piece.now
-        → Takes from
-        (stand (E.state exec.new) (C.coming clock.new) (outgoing (L.sent link.new) (L.write_faults link.new) (L.refusals link.new)))
-        taken frames.new piece.now result }
+    ensures goes { TakesOn
+        (stand (E.state exec.old) (C.coming clock.old) (outgoing (L.sent link.old) (L.write_faults link.old) (L.refusals link.old))) frames.old
+        (stand (E.state exec.new) (C.coming clock.new) (outgoing (L.sent link.new) (L.write_faults link.new) (L.refusals link.new))) frames.new
+        piece.now result }
     ensures incoming { incoming (L.left link.new) (L.read_faults link.new) ≡ incoming (L.left link.old) (L.read_faults link.old) }
 {
     if frames.held() > 0 {

@@ -11,5 +11,5 @@ returns-in_default-new-2 g c = never_began _ _ (opening_keeps_the_rules _ _)
 pub returns-in_default-zeros : goal.returns-in_default-zeros
 returns-in_default-zeros g c = never_began _ _ (opening_keeps_the_rules _ _)
 
-pub returns-in_default-new-3 : goal.returns-in_default-new-3
-returns-in_default-new-3 g c = never_began _ _ (opening_keeps_the_rules _ _)
+pub returns-in_default : goal.returns-in_default
+returns-in_default g c = never_began _ _ (opening_keeps_the_rules _ _)
