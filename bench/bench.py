@@ -1,8 +1,10 @@
 #!/usr/bin/env python3
-"""Measures `arcus session` on one input, beside memcached and redis on loopback where they are installed.
+"""Measures `arcus session`, beside memcached and redis on loopback where they are installed.
 
-50,000 `set` of 100-byte values under as many keys of 14 bytes, and then a `get` of each key in mixed order. See README.md
-in this folder for what is printed and how to read it.
+50,000 `set` of 100-byte values under as many keys of 14 bytes, and then a `get` of each key in mixed order; and the
+instructions of requests of one kind each. See README.md in this folder for what is printed and how to read it.
+
+With words it counts the instructions of these programs instead, each run as `PROGRAM session`.
 """
 
 import os
@@ -24,6 +26,8 @@ KEYS = 50_000
 VALUE_BYTES = 100
 REQUESTS = 2 * KEYS
 RUNS = 5
+LARGE_BYTES = 100_000
+LARGE_VALUES = 500
 LIMIT_MIB = 64
 # The stated size of such an item: 64 bytes, its key and its value.
 ITEM_BYTES = 64 + 14 + VALUE_BYTES
@@ -115,20 +119,60 @@ def redis_bytes(order):
     return requests, replies
 
 
-def instructions(path, folder):
-    """User-space instructions of one session by callgrind, less those of a session without input."""
+def workloads():
+    """Kinds of requests: a name, what goes before them, the requests, how many they are, and the most bytes of a read."""
+    order, gets = mixed_gets()
+    stored = sets(KEYS)
+    large = b"".join(b"set big:%d 0 0 %d\r\n%s\r\n" % (i, LARGE_BYTES, b"v" * LARGE_BYTES) for i in range(LARGE_VALUES))
+    large_gets = b"".join(b"get big:%d\r\n" % i for i in range(LARGE_VALUES))
+    numbers = b"".join(b"set %s 0 0 2\r\n10\r\n" % key(i) for i in range(KEYS))
+    tens = b"".join(b"get " + b" ".join(key(i) for i in order[at:at + 10]) + b"\r\n" for at in range(0, KEYS, 10))
+    return [
+        ("a `set` of a new key, with its release at the end", b"", stored, KEYS, None),
+        ("a `get`", stored, gets, KEYS, None),
+        ("a `set` of a held key", stored, stored, KEYS, None),
+        ("a `get` of 10 keys", stored, tens, KEYS // 10, None),
+        ("an `incr`", numbers, b"".join(b"incr %s 1\r\n" % key(i) for i in order), KEYS, None),
+        ("an `append` of 10 bytes", stored, b"".join(b"append %s 0 0 10\r\n0123456789\r\n" % key(i) for i in order), KEYS, None),
+        ("a `delete`, less the release at the end", stored, b"".join(b"delete %s\r\n" % key(i) for i in order), KEYS, None),
+        ("a `set` of 100,000 bytes", b"", large, LARGE_VALUES, None),
+        ("a `get` of 100,000 bytes", large, large_gets, LARGE_VALUES, None),
+        ("sets and gets that come in pieces of 100 bytes", b"", stored + gets, REQUESTS, 100),
+    ]
+
+
+def collected(program, requests, piece, folder):
+    """User-space instructions of one session by callgrind. Reads give at most `piece` bytes, where it is given."""
+    out = os.path.join(folder, "callgrind.out")
+    command = ["valgrind", "--tool=callgrind", "--callgrind-out-file=" + out, program, "session"]
+    if piece is None:
+        with tempfile.TemporaryFile() as source:
+            source.write(requests)
+            source.seek(0)
+            run = subprocess.run(command, stdin=source, stdout=subprocess.DEVNULL, stderr=subprocess.PIPE, check=True)
+            return int(re.search(rb"Collected : (\d+)", run.stderr).group(1))
+    # A read of such a socket gives one packet.
+    ours, theirs = socket.socketpair(socket.AF_UNIX, socket.SOCK_SEQPACKET)
+    with ours, subprocess.Popen(command, stdin=theirs, stdout=subprocess.DEVNULL, stderr=subprocess.PIPE) as run:
+        theirs.close()
+        for at in range(0, len(requests), piece):
+            ours.sendall(requests[at:at + piece])
+        ours.shutdown(socket.SHUT_WR)
+        return int(re.search(rb"Collected : (\d+)", run.stderr.read()).group(1))
+
+
+def tell_instructions(programs, folder):
+    """Prints the instructions of a request of each kind, for each program."""
     if shutil.which("valgrind") is None:
-        return None
-
-    def count(source):
-        out = os.path.join(folder, "callgrind.out")
-        with open(source, "rb") as stdin:
-            run = subprocess.run(
-                ["valgrind", "--tool=callgrind", "--callgrind-out-file=" + out, PROGRAM, "session"],
-                stdin=stdin, stdout=subprocess.DEVNULL, stderr=subprocess.PIPE, check=True)
-        return int(re.search(rb"Collected : (\d+)", run.stderr).group(1))
-
-    return count(path) - count(os.devnull)
+        print("instructions: valgrind is not installed")
+        return
+    print("instructions a request in user space: " + ", ".join(os.path.basename(program) for program in programs))
+    for name, before, requests, count, piece in workloads():
+        figures = []
+        for program in programs:
+            both = collected(program, before + requests, piece, folder)
+            figures.append((both - collected(program, before, None, folder)) / count)
+        print(f"  {name}: " + ", ".join(f"{figure:,.0f}" for figure in figures))
 
 
 def peak_bytes():
@@ -163,6 +207,10 @@ def tell(name, runs, replies, ours=None):
 
 
 def main():
+    if len(sys.argv) > 1:
+        with tempfile.TemporaryDirectory() as folder:
+            tell_instructions(sys.argv[1:], folder)
+        return
     if not os.path.exists(PROGRAM):
         sys.exit(f"{PROGRAM} is not there: build it by ./arcus")
     order, gets = mixed_gets()
@@ -182,11 +230,7 @@ def main():
         tell("redis, one connection on loopback", with_peer(
             ["redis-server", "--bind", "127.0.0.1", "--port", str(port), "--save", "", "--appendonly", "no"],
             port, redis_requests, len(redis_replies)), redis_replies, ours)
-        count = instructions(path, folder)
-        if count is None:
-            print("instructions: valgrind is not installed")
-        else:
-            print(f"instructions: {count / REQUESTS:.0f} a request in user space")
+        tell_instructions([PROGRAM], folder)
     peak, accounted = peak_bytes()
     print(f"memory: a peak of {peak / (1 << 20):.1f} MiB with {accounted / (1 << 20):.1f} MiB accounted, a ratio of {peak / accounted:.2f}")
 
