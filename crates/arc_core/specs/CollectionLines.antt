@@ -1,6 +1,6 @@
--- What every line is: a key-value command, a command on a collection, or none. A command on a collection is known by its
--- first two words.
-use Rattle.std.specs.Prelude.{◌≡◌, ◌⊎◌, ℕ, ◌==◌, Bool, false, if◌then◌else◌, List, [], ◌∷◌, bytes_eq, codes, Option, Some, None}
+-- What every line is: a key-value command, a command on a collection, or none; and which request a line and its block
+-- spell. A command on a collection is known by its first two words.
+use Rattle.std.specs.Prelude.{◌≡◌, ◌⊎◌, ℕ, ◌==◌, Bool, true, false, if◌then◌else◌, List, [], ◌∷◌, bytes_eq, codes, Option, Some, None}
 use Rattle.std.specs.Option.{option_and_then, option_map, option_map_or}
 use Rattle.arc_core.specs.declared.coll_commands.CollCommand.{CollCommand}
 use Rattle.arc_core.specs.declared.coll_commands.CollCommand.TheVariants as command
@@ -13,12 +13,14 @@ use Rattle.arc_core.specs.declared.commands.CommandName.{CommandName}
 use Rattle.arc_core.specs.declared.outside.Need.{Need}
 use Rattle.arc_core.specs.declared.outside.Need.TheVariants as need
 use Rattle.arc_core.specs.declared.requests.Answer.{Answer}
-use Rattle.arc_core.specs.Grammar.{IsHead, IsBadFormat, command_of, row_of, need_of, is_quit, is_silent, block_limit}
+use Rattle.arc_core.specs.Grammar.{IsHead, IsBadFormat, Meets, command_of, row_of, need_of, is_quit, is_silent, block_limit, request_of}
 use Rattle.arc_core.specs.ListGrammar.{create_row, list_insert_row, list_delete_row, list_get_row}
 use Rattle.arc_core.specs.MapGrammar.{map_insert_row, map_update_row, map_upsert_row, map_delete_row, map_get_row}
+use Rattle.arc_core.specs.PlainRequest.{PlainAct, PlainRequest}
+use Rattle.arc_core.specs.PlainRequest as act
 use Rattle.arc_core.specs.Rows.{Row, Spells, row_read}
 use Rattle.arc_core.specs.SetGrammar.{set_insert_row, set_delete_row, set_exist_row, set_get_row}
-use Rattle.arc_core.specs.Words.{words}
+use Rattle.arc_core.specs.Words.{words, fields_counted}
 
 -- the command that a word names behind `lop`, `sop` and `mop`
 abbrev pub list_name_of : List ℕ → Option CollName
@@ -162,3 +164,44 @@ coll_answer (coll_head.Collection asked answer) = answer
 -- whether the line asks that no answer be sent, whatever happens to it
 abbrev pub coll_line_is_silent : List ℕ → Bool
 coll_line_is_silent line = option_map_or (λ head. is_silent (coll_answer head)) (coll_head_of (words line)) false
+
+-- what a command on a collection does, with its block. None where its block is not the fields that it names
+abbrev pub coll_act_of : CollCommand → List ℕ → Option PlainAct
+coll_act_of (command.Create kind key args) block = Some (act.make kind key args)
+coll_act_of (command.ListInsert key index len create) block = Some (act.on_collection key (act.list_insert index block create))
+coll_act_of (command.ListDelete key range drop_empty) block = Some (act.on_collection key (act.list_delete range drop_empty))
+coll_act_of (command.ListGet key range taking) block = Some (act.on_collection key (act.list_get range taking))
+coll_act_of (command.SetInsert key len create) block = Some (act.on_collection key (act.set_insert block create))
+coll_act_of (command.SetDelete key len drop_empty) block = Some (act.on_collection key (act.set_delete block drop_empty))
+coll_act_of (command.SetExist key len) block = Some (act.on_collection key (act.set_exist block))
+coll_act_of (command.SetGet key count taking) block = Some (act.on_collection key (act.set_get count taking))
+coll_act_of (command.MapInsert key field len create) block = Some (act.on_collection key (act.map_insert field block create))
+coll_act_of (command.MapUpdate key field len) block = Some (act.on_collection key (act.map_update field block))
+coll_act_of (command.MapUpsert key field len create) block = Some (act.on_collection key (act.map_upsert field block create))
+coll_act_of (command.MapDelete key len number drop_empty) block =
+    option_map (λ fields. act.on_collection key (act.map_delete fields drop_empty)) (fields_counted number (words block))
+coll_act_of (command.MapGet key len number taking) block =
+    option_map (λ fields. act.on_collection key (act.map_get fields taking)) (fields_counted number (words block))
+
+-- the request of a head and its block. None where the head ends the session, or where its block is not the keys or fields
+-- that it names
+abbrev pub coll_request_of : CollHead → List ℕ → Option PlainRequest
+coll_request_of (coll_head.KeyValue head) block = request_of head block
+coll_request_of (coll_head.Collection asked answer) block = option_map (λ act. record { act = act; answer = answer }) (coll_act_of asked block)
+
+-- The line and the block spell this request.
+abbrev pub SpellsRequest : List ℕ → List ℕ → PlainRequest → Type 0
+SpellsRequest line block request = (head : CollHead) × IsCollHead line head × Meets (coll_need_of head) block × (coll_request_of head block ≡ Some request)
+
+-- The line asks for a block of keys or fields, and this one, of the right length, is not so many.
+abbrev pub IsBadBlock : List ℕ → List ℕ → Type 0
+IsBadBlock line block =
+    (head : CollHead) × IsCollHead line head × (coll_is_quit head ≡ false) × Meets (coll_need_of head) block × (coll_request_of head block ≡ None)
+
+-- The line ends the session.
+abbrev pub IsQuit : List ℕ → Type 0
+IsQuit line = (head : CollHead) × IsCollHead line head × (coll_is_quit head ≡ true)
+
+-- Some line and some block spell the request.
+abbrev pub CanBeSpelled : PlainRequest → Type 0
+CanBeSpelled request = (line : List ℕ) × (block : List ℕ) × SpellsRequest line block request

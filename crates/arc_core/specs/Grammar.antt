@@ -133,21 +133,3 @@ Meets (need.Block len limit) block = (length block ≡ len) × (len ≤ limit)
 -- The block is one that the command may have.
 abbrev pub IsBlockFor : Command → List ℕ → Type 0
 IsBlockFor asked block = Meets (need_of asked) block
-
--- The line and the block spell this request.
-abbrev pub SpellsRequest : List ℕ → List ℕ → PlainRequest → Type 0
-SpellsRequest line block request = (head : Head) × IsHead line head × IsBlockFor head.command block × (request_of head block ≡ Some request)
-
--- The line asks for a block of keys, and this one, of the right length, is not so many keys.
-abbrev pub IsBadBlock : List ℕ → List ℕ → Type 0
-IsBadBlock line block =
-    (head : Head) × (len : ℕ) × (number : ℕ) × IsHead line head × (head.command ≡ command.GetBlock len number) × IsBlockFor head.command block
-    × (keys_counted number (words block) ≡ None)
-
--- The line ends the session.
-abbrev pub IsQuit : List ℕ → Type 0
-IsQuit line = (head : Head) × IsHead line head × (head.command ≡ command.Quit)
-
--- Some line and some block spell the request.
-abbrev pub CanBeSpelled : PlainRequest → Type 0
-CanBeSpelled request = (line : List ℕ) × (block : List ℕ) × SpellsRequest line block request

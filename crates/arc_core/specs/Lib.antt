@@ -4,6 +4,7 @@ pub mod BkeyText
 pub mod CacheState
 pub mod CollectionGrammar
 pub mod CollectionLines
+pub mod CollectionRequests
 pub mod CollectionRows
 pub mod CollectionSize
 pub mod CollectionStep
@@ -27,6 +28,7 @@ pub mod Places
 pub mod PlainRequest
 pub mod Plan
 pub mod ReplyText
+pub mod RequestLimits
 pub mod Room
 pub mod Rows
 pub mod SessionText

@@ -4,7 +4,7 @@ use Rattle.arc_core.specs.declared.replies.Word.{Word}
 use Rattle.arc_core.specs.declared.replies.Word.TheVariants as word
 use Rattle.arc_core.specs.PlainRequest.{PlainRequest}
 use Rattle.arc_core.specs.Framing.{Whole, line, line_with_block, bad_chunk, too_large, block_no_memory, line_too_long}
-use Rattle.arc_core.specs.Grammar.{SpellsRequest, IsUnknown, IsBadFormat, IsBadBlock, IsQuit, line_is_silent}
+use Rattle.arc_core.specs.CollectionLines.{SpellsRequest, IsCollUnknown, IsCollBadFormat, IsBadBlock, IsQuit, coll_line_is_silent}
 use Rattle.arc_core.specs.ReplyText.{reply_text, word_line}
 use Rattle.arc_core.specs.History.{Entry}
 
@@ -19,7 +19,7 @@ IsRequest line_too_long request = ⊥
 
 -- The session answers the unit by itself, with this word.
 abbrev pub AnswersItself : Whole → Word → Type 0
-AnswersItself (line text) answer = (IsUnknown text × (answer ≡ word.Unknown)) ⊎ (IsBadFormat text × (answer ≡ word.BadFormat))
+AnswersItself (line text) answer = (IsCollUnknown text × (answer ≡ word.Unknown)) ⊎ (IsCollBadFormat text × (answer ≡ word.BadFormat))
 AnswersItself (line_with_block text block) answer = IsBadBlock text block × (answer ≡ word.BadChunk)
 AnswersItself (bad_chunk text) answer = answer ≡ word.BadChunk
 AnswersItself (too_large text) answer = answer ≡ word.TooLarge
@@ -37,7 +37,7 @@ IsQuitUnit line_too_long = ⊥
 
 -- what is sent of an answer: all, or nothing where the line says `noreply`
 abbrev pub sent_for : List ℕ → List ℕ → List ℕ
-sent_for text answer = if line_is_silent text then [] else answer
+sent_for text answer = if coll_line_is_silent text then [] else answer
 
 -- what is sent of the answer to a unit
 abbrev pub sent_of : Whole → List ℕ → List ℕ

@@ -12,13 +12,15 @@ use Rattle.arc_core.specs.declared.replies.Reply.{Reply}
 use Rattle.arc_core.specs.declared.replies.Reply.TheVariants as reply
 use Rattle.arc_core.specs.declared.replies.Word.TheVariants as word
 use Rattle.arc_core.specs.declared.replies.ValueRow.{ValueRow}
-use Rattle.arc_core.specs.PlainRequest.{PlainAct, PlainRequest, store, get, count, delete, touch, flush_all, version}
+use Rattle.arc_core.specs.PlainRequest.{PlainAct, PlainRequest, store, get, count, delete, touch, flush_all, version, make, on_collection}
 use Rattle.arc_core.specs.Words.{number_below}
 use Rattle.arc_core.specs.Plan.{Plan, answer_only, put, take_away, take_all}
 use Rattle.arc_core.specs.Item.{Item, key_value, collection, size_of, expiry_of, with_expiry, expiry_at, has_expired, is_sticky}
 use Rattle.arc_core.specs.Places.{Places, empty_places, found, placed, brought_to_front, without}
 use Rattle.arc_core.specs.Room.{room, evicted}
 use Rattle.arc_core.specs.CacheState.{CacheState}
+use Rattle.arc_core.specs.CollectionRequests.{asked_of, empty_of}
+use Rattle.arc_core.specs.CollectionStep.{plan_of_asked, plan_of_create}
 
 -- the keys that a request names, in its order
 abbrev pub named_keys : PlainAct → List (List ℕ)
@@ -29,6 +31,8 @@ named_keys (delete key) = key ∷ []
 named_keys (touch key exptime) = key ∷ []
 named_keys flush_all = []
 named_keys version = []
+named_keys (make kind key args) = key ∷ []
+named_keys (on_collection key asked) = key ∷ []
 
 -- THE START OF A STEP
 
@@ -137,6 +141,8 @@ plan_of state (delete key) = plan_of_delete key (found key state.places)
 plan_of state (touch key exptime) = plan_of_touch state key exptime (found key state.places)
 plan_of state flush_all = take_all (reply.Word word.Ok)
 plan_of state version = answer_only (reply.Word word.Version)
+plan_of state (make kind key args) = plan_of_create state.latest state.counter key args (empty_of kind) (found key state.places)
+plan_of state (on_collection key asked) = plan_of_asked state.latest state.counter key (asked_of asked) (found key state.places)
 
 -- THE PLAN CARRIED OUT
 

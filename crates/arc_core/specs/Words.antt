@@ -1,6 +1,6 @@
 -- Words of a line or block, and what single words spell. (The memcached protocol separates words by a space.)
 use Rattle.std.specs.Prelude.{◌==◌, ◌∷◌, ◌&&◌, not, ℕ, ◌+◌, ◌-◌, ◌*◌, ◌^◌, nat_lt, nat_le, if◌then◌else◌, Bool, List, length, drop, filter, fold, slice_index, bytes_eq, codes, is_none, All, Option, Some, None, ℤ, pos, ◌-ℤ◌}
-use Rattle.std.specs.Option.{option_map}
+use Rattle.std.specs.Option.{option_and_then, option_map}
 use Rattle.std.specs.Borrow.{Bor}
 use Rattle.std.specs.List.{slice_split, list_all}
 use Rattle.std.specs.Char.{is_ascii_digit}
@@ -76,6 +76,14 @@ at_most_keys most list = if nat_le (length list) most && are_keys list then Some
 -- the words, where there are exactly so many of them and each is a key
 unfoldable pub keys_counted : ℕ → List (List ℕ) → Option (List (List ℕ))
 keys_counted number list = if length list == number && are_keys list then Some list else None
+
+-- the words, where each has 250 bytes at most, as a field of a map has
+abbrev pub short_words : List (List ℕ) → Option (List (List ℕ))
+short_words list = if list_all (λ word. nat_le (length word) 250) list then Some list else None
+
+-- the words, where there are exactly so many of them and each is a field of a map: a key of 250 bytes at most
+abbrev pub fields_counted : ℕ → List (List ℕ) → Option (List (List ℕ))
+fields_counted number list = option_and_then short_words (keys_counted number list)
 
 -- the words, where there are 1 to so many of them and each is a key
 unfoldable pub keys_up_to : ℕ → List (List ℕ) → Option (List (List ℕ))

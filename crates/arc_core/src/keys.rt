@@ -10,6 +10,9 @@ use std::marker::Model;
 /// The most bytes of a key.
 pub const MAX_KEY_BYTES: usize = 16_000;
 
+/// The most bytes of a field of a map.
+pub const MAX_FIELD_BYTES: usize = 250;
+
 /// What is wrong with the bytes of a key.
 #[derive(Clone, Copy, Debug, PartialEq, Eq)]
 pub enum KeyFault {

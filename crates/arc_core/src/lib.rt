@@ -9,6 +9,7 @@
 //! | what it is answered | `replies`, `rows`, `items`, `faults`, `ends` |
 //! | what is outside, and objects in memory that play it | `outside`, `memory`, `links`, `clocks` |
 //! | who executes requests | `machine` |
+//! | which limits requests keep | `laws` |
 #![tactic(auto)]
 
 mod attributes;
@@ -22,6 +23,7 @@ mod faults;
 mod filters;
 mod items;
 mod keys;
+mod laws;
 mod limits;
 mod links;
 mod lists;
@@ -51,7 +53,8 @@ pub use ends::End;
 pub use faults::{Failed, NoMemory};
 pub use filters::{BitOp, CompOp, Eflag, EflagChange, Filter, FlagIter, FlagWords};
 pub use items::Expiry;
-pub use keys::{Key, KeyFault, KeyRef, MAX_KEY_BYTES};
+pub use keys::{Key, KeyFault, KeyRef, MAX_FIELD_BYTES, MAX_KEY_BYTES};
+pub use laws::spelled_requests_keep_limits;
 pub use limits::{MAX_LIMIT_MIB, MIB};
 pub use links::{LinkCalls, MemoryLink, SteadyLink};
 pub use lists::{ListPlan, Part};

@@ -2,7 +2,7 @@
 ghost use Rattle.std.specs.Prelude.{◌^◌, ◌<◌, length};
 ghost use Rattle.arc_core.specs.CacheState.{CacheState, IsState};
 ghost use Rattle.arc_core.specs.PlainRequest.{plain};
-ghost use Rattle.arc_core.specs.Grammar.{CanBeSpelled};
+ghost use Rattle.arc_core.specs.CollectionLines.{CanBeSpelled};
 ghost use Rattle.arc_core.specs.History.{Executes};
 ghost use Rattle.arc_core.specs.ReplyText.{reply_text};
 

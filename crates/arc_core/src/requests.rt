@@ -3,7 +3,7 @@
 ghost use Rattle.std.specs.Prelude.{◌≡◌};
 ghost use Rattle.arc_core.specs.Grammar.{is_silent};
 
-use crate::{KeyRef, KeyWords};
+use crate::{CreateArgs, IndexRange, KeyRef, KeyWords, Kind, Take};
 
 /// How the answer to a request is sent.
 #[derive(Clone, Copy, Debug, PartialEq, Eq)]
@@ -44,6 +44,9 @@ pub enum StoreVerb {
 }
 
 /// What a request does.
+///
+/// Elements have 32,768 bytes at most, and fields of maps 250. `create` has the attributes of the collection that is made
+/// where no item is held. `drop_empty` says that a collection which a removal leaves empty goes too.
 #[derive(Drop)]
 pub enum Act<'a> {
     /// Stores a value with client flags. `exptime` is the protocol's, from -2^31 to 2^32 - 1: 0 is never, -1 is sticky,
@@ -81,6 +84,86 @@ pub enum Act<'a> {
     FlushAll,
     /// Asks for the server's version.
     Version,
+    /// Makes an empty collection (`lop create`, `sop create`, `mop create`).
+    Create {
+        kind: Kind,
+        key: KeyRef<'a>,
+        args: CreateArgs,
+    },
+    /// Puts a value into a list, at an index.
+    ListInsert {
+        key: KeyRef<'a>,
+        index: i32,
+        value: &'a [u8],
+        create: Option<CreateArgs>,
+    },
+    /// Removes a range of a list.
+    ListDelete {
+        key: KeyRef<'a>,
+        range: IndexRange,
+        drop_empty: bool,
+    },
+    /// Reads a range of a list.
+    ListGet {
+        key: KeyRef<'a>,
+        range: IndexRange,
+        take: Take,
+    },
+    /// Puts a value into a set.
+    SetInsert {
+        key: KeyRef<'a>,
+        value: &'a [u8],
+        create: Option<CreateArgs>,
+    },
+    /// Removes a value from a set.
+    SetDelete {
+        key: KeyRef<'a>,
+        value: &'a [u8],
+        drop_empty: bool,
+    },
+    /// Asks whether a value is in a set.
+    SetExist {
+        key: KeyRef<'a>,
+        value: &'a [u8],
+    },
+    /// Reads so many of the first values of a set, all for 0.
+    SetGet {
+        key: KeyRef<'a>,
+        count: u32,
+        take: Take,
+    },
+    /// Puts a value into a map, under a new field.
+    MapInsert {
+        key: KeyRef<'a>,
+        field: KeyRef<'a>,
+        value: &'a [u8],
+        create: Option<CreateArgs>,
+    },
+    /// Gives a field of a map another value.
+    MapUpdate {
+        key: KeyRef<'a>,
+        field: KeyRef<'a>,
+        value: &'a [u8],
+    },
+    /// Gives a field of a map another value, or puts it under a new field.
+    MapUpsert {
+        key: KeyRef<'a>,
+        field: KeyRef<'a>,
+        value: &'a [u8],
+        create: Option<CreateArgs>,
+    },
+    /// Removes the pairs of these fields of a map; all where none is named.
+    MapDelete {
+        key: KeyRef<'a>,
+        fields: KeyWords<'a>,
+        drop_empty: bool,
+    },
+    /// Reads the pairs of these fields of a map; all where none is named.
+    MapGet {
+        key: KeyRef<'a>,
+        fields: KeyWords<'a>,
+        take: Take,
+    },
 }
 
 /// A request. It borrows the line and the block that spell it.

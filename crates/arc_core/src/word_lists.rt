@@ -1,14 +1,14 @@
 //! The words of a line or block, read where they lie.
-ghost use Rattle.std.specs.Prelude.{◌≡◌, ◌<◌, ◌≤◌, ◌+◌, ◌==◌, List, ℕ, [], ◌∷◌, length, position, MatchOption, IfSome, Some, None, option_map};
-ghost use Rattle.std.specs.List.{position_or_len};
+ghost use Rattle.std.specs.Prelude.{◌≡◌, ◌<◌, ◌≤◌, ◌+◌, ◌==◌, List, ℕ, [], ◌∷◌, length, nat_le, position, MatchOption, IfSome, Some, None, option_map};
+ghost use Rattle.std.specs.List.{list_all, position_or_len};
 ghost use Rattle.std.specs.Option.{IfNone};
 ghost use Rattle.std.specs.Iterator.{YieldsFirst, YieldsFirstRef, item_count};
 ghost use Rattle.arc_core.specs.Rows.{one, part_read};
-ghost use Rattle.arc_core.specs.Words.{AreKeys, is_space, is_other, words, key_word, number_below, key_count, at_most_keys, keys_counted, keys_up_to};
+ghost use Rattle.arc_core.specs.Words.{AreKeys, is_space, is_other, words, key_word, number_below, key_count, at_most_keys, keys_counted, fields_counted, keys_up_to};
 
 use crate::keys::key_len;
 use crate::numbers::front_number;
-use crate::{KeyRef, MAX_KEY_BYTES, read_number};
+use crate::{KeyRef, MAX_FIELD_BYTES, MAX_KEY_BYTES, read_number};
 use std::marker::Model;
 
 /// The first word of a text, and the text behind it; `None` where the text has no word.
@@ -247,6 +247,21 @@ impl<'a> KeyWords<'a> {
         }
     }
 
+    /// Reads a block as so many fields of a map.
+    ///
+    /// `None` comes exactly where the block's words are not that number, or one of them is no key or has more than 250
+    /// bytes. Takes no memory.
+    pub fn fields(block: &'a [u8], number: u32) -> Option<KeyWords<'a>>
+        ensures { result ≡ fields_counted number (words block.now) }
+    {
+        let fields = KeyWords::read(block, number)?;
+        if are_short(&fields) {
+            Some(fields)
+        } else {
+            None
+        }
+    }
+
     /// Reads a text as 1 to `most` keys.
     ///
     /// `None` comes exactly where the text has no word or more of them, or one of them is no key. Takes no memory.
@@ -274,6 +289,18 @@ impl<'a> KeyWords<'a> {
             words: WordIter::of(self.behind),
         }
     }
+}
+
+// Whether each key is short enough for a field.
+fn are_short(keys: &KeyWords<'_>) -> bool
+    ensures { result ≡ list_all (λ key. nat_le (length key) 250) keys.now }
+{
+    for key in keys.iter() {
+        if key.bytes().len() > MAX_FIELD_BYTES {
+            return false;
+        }
+    }
+    true
 }
 
 // The words of a text, where there are at most so many and each is a key.

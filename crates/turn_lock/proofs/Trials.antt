@@ -11,10 +11,13 @@ use Rattle.arc_core.specs.declared.replies.Word.TheVariants as word
 use Rattle.arc_core.specs.Item.{Item, size_of}
 use Rattle.arc_core.specs.Places.{weight_of}
 use Rattle.arc_core.specs.CacheState.{IsState}
-use Rattle.arc_core.specs.PlainRequest.{delete, touch, flush_all, version}
+use Rattle.arc_core.specs.CollectionRequests.{asked_of}
+use Rattle.arc_core.specs.PlainRequest.{CollAct, delete, touch, flush_all, version, on_collection}
 use Rattle.arc_core.specs.declared.commands.CommandName.TheVariants as named
 use Rattle.arc_core.specs.declared.commands.Command.TheVariants as command
-use Rattle.arc_core.specs.Grammar.{CanBeSpelled, command_of}
+use Rattle.arc_core.specs.declared.coll_commands.CollHead.TheVariants as coll_head
+use Rattle.arc_core.specs.CollectionLines.{CanBeSpelled}
+use Rattle.arc_core.specs.Grammar.{command_of}
 use Rattle.arc_core.specs.Step.{step}
 use Rattle.turn_lock.specs.Trials.{vacant_state}
 
@@ -58,7 +61,7 @@ spelled = (
   codes "version",
   [],
   (
-    record { command = command.Version; answer = answer.Plain },
+    coll_head.KeyValue (record { command = command.Version; answer = answer.Plain }),
     (named.Version, [], record { first = codes "version"; words_are = refl; is_command = refl }, (refl, refl)),
     refl,
     refl,
@@ -67,6 +70,11 @@ spelled = (
 
 pub touches : (latest now : ℕ) (key : List ℕ) (exptime : ℤ) (a : Answer) → step (vacant_state latest) now (record { act = touch key exptime; answer = a }) ≡ (vacant_state (max latest now), reply.Word word.NotFound)
 touches latest now key exptime a = rw (nothing_under key, nothing_under key, nothing_under key) refl
+
+-- what makes no collection finds none
+pub asks : (latest now : ℕ) (key : List ℕ) (asked : CollAct) (a : Answer) → (asked_of asked).makes ≡ None
+    → step (vacant_state latest) now (record { act = on_collection key asked; answer = a }) ≡ (vacant_state (max latest now), reply.Word word.NotFound)
+asks latest now key asked a none = rw (nothing_under key, nothing_under key, none, nothing_under key) refl
 
 pub flushes : (latest now : ℕ) (a : Answer) → step (vacant_state latest) now (record { act = flush_all; answer = a }) ≡ (vacant_state (max latest now), reply.Word word.Ok)
 flushes latest now a = refl

@@ -1,6 +1,6 @@
 //! The lock.
 ghost use Rattle.std.specs.Prelude.{◌≡◌, ◌<◌, ◌^◌, length, IfOk, IsSomeAnd};
-ghost use Rattle.arc_core.specs.Grammar.{CanBeSpelled};
+ghost use Rattle.arc_core.specs.CollectionLines.{CanBeSpelled};
 ghost use Rattle.arc_core.specs.PlainRequest.{plain};
 ghost use Rattle.arc_core.specs.ReplyText.{reply_text};
 ghost use Rattle.turn_lock.specs.Calls.{Begins, IsLegal};

@@ -1,6 +1,6 @@
 //! The moves of one call: draw, look until the turn comes, execute, pass on.
 ghost use Rattle.std.specs.Prelude.{◌≡◌, ℕ, ◌<◌, ◌^◌, [], ◌∷◌, ◌++◌, length};
-ghost use Rattle.arc_core.specs.Grammar.{CanBeSpelled};
+ghost use Rattle.arc_core.specs.CollectionLines.{CanBeSpelled};
 ghost use Rattle.arc_core.specs.PlainRequest.{plain};
 ghost use Rattle.arc_core.specs.ReplyText.{reply_text};
 ghost use Rattle.turn_lock.specs.Calls.{calls_of};

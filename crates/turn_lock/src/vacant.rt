@@ -48,6 +48,19 @@ impl Executor for Vacant {
             Act::Touch { .. } => self.answer(now, Word::NotFound),
             Act::FlushAll => self.answer(now, Word::Ok),
             Act::Version => self.answer(now, Word::Version),
+            Act::Create { .. } => Reply::Word(Word::NoMemory),
+            Act::ListInsert { .. } => Reply::Word(Word::NoMemory),
+            Act::ListDelete { .. } => self.answer(now, Word::NotFound),
+            Act::ListGet { .. } => Reply::Word(Word::NoMemory),
+            Act::SetInsert { .. } => Reply::Word(Word::NoMemory),
+            Act::SetDelete { .. } => self.answer(now, Word::NotFound),
+            Act::SetExist { .. } => self.answer(now, Word::NotFound),
+            Act::SetGet { .. } => Reply::Word(Word::NoMemory),
+            Act::MapInsert { .. } => Reply::Word(Word::NoMemory),
+            Act::MapUpdate { .. } => Reply::Word(Word::NoMemory),
+            Act::MapUpsert { .. } => Reply::Word(Word::NoMemory),
+            Act::MapDelete { .. } => self.answer(now, Word::NotFound),
+            Act::MapGet { .. } => Reply::Word(Word::NoMemory),
         }
     }
 
