@@ -53,7 +53,7 @@ no_command first second name h =
 same_first : (first word : List ℕ) (after behind : List (List ℕ)) → ◌≡◌ {A = List (List ℕ)} (first ∷ after) (word ∷ behind) → first ≡ word
 same_first first word after behind h = cc
 
-None-is_no_Some : {A : Type 0} (a : A) → None ≡ Some a → ⊥
+pub None-is_no_Some : {A : Type 0} (a : A) → None ≡ Some a → ⊥
 None-is_no_Some a h = cc
 
 -- a line begins with a key-value command, or with one on a collection, and not with both

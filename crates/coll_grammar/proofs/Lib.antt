@@ -1,3 +1,4 @@
 pub mod CollectionRows
 pub mod HeadLemmas
 pub mod PartLemmas
+pub mod RequestLemmas

@@ -7,6 +7,7 @@
 //!
 //! | To find | Look in |
 //! |---|---|
+//! | the request of a line and its block | `joins` |
 //! | a whole line, its laws, and which block it asks for | `lines` |
 //! | the names of commands on collections, by their two words | `names` |
 //! | how the words behind a name go on | `list` (and `create` of all kinds), `set`, `map` |
@@ -15,6 +16,7 @@
 //! What a line spells, a `CollHead`, is a type of `arc_core`.
 #![tactic(auto)]
 
+mod joins;
 mod lines;
 mod list;
 mod map;
@@ -24,8 +26,10 @@ mod set;
 #[cfg(test)]
 mod tests;
 
-pub use arc_core::{CollCommand, CollHead, CollName};
+pub use arc_core::{BlockFault, CollCommand, CollHead, CollName};
+pub use joins::join;
 pub use line_grammar::LineFault;
 pub use lines::{
-    AllHeads, head_is_no_fault, line_spells_one_head, quit_is_nothing_else, read_head,
+    AllHeads, bad_block_is_no_request, head_is_no_fault, line_spells_one_head,
+    quit_is_nothing_else, read_head,
 };

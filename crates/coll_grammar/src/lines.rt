@@ -3,8 +3,9 @@ ghost use Rattle.std.specs.Prelude.{◌≡◌, ◌↔◌, true, false, List, ℕ
 ghost use Rattle.arc_core.specs.declared.outside.Need.TheVariants as need;
 ghost use Rattle.arc_core.specs.Rows.{row_read};
 ghost use Rattle.arc_core.specs.declared.coll_commands.CollHead.{CollHead};
-ghost use Rattle.arc_core.specs.CollectionLines.{IsCollHead, IsCollUnknown, IsCollBadFormat, coll_line_needs, coll_line_is_silent, coll_need_of, coll_answer, coll_is_quit, coll_row_of};
+ghost use Rattle.arc_core.specs.CollectionLines.{IsCollHead, IsCollUnknown, IsCollBadFormat, IsBadBlock, IsQuit, SpellsRequest, coll_line_needs, coll_line_is_silent, coll_need_of, coll_answer, coll_is_quit, coll_row_of};
 ghost use Rattle.arc_core.specs.Grammar.{is_silent};
+ghost use Rattle.arc_core.specs.PlainRequest.{PlainRequest};
 ghost use Rattle.coll_grammar.specs.Reading.{answer_to};
 
 use crate::names::name_of;
@@ -70,11 +71,13 @@ fn read_row(name: CollName, words: WordIter<'_>) -> Option<CollHead<'_>>
     }
 }
 
-/// A line spells at most one head.
+/// A line spells at most one head, and a line and its block spell at most one request.
 ///
 /// The function does nothing: this law is its contract.
 pub fn line_spells_one_head()
-    ensures { (line : List ℕ) (one other : CollHead) → IsCollHead line one → IsCollHead line other → one ≡ other }
+    ensures heads { (line : List ℕ) (one other : CollHead) → IsCollHead line one → IsCollHead line other → one ≡ other }
+    ensures requests { (line block : List ℕ) (one other : PlainRequest) →
+        SpellsRequest line block one → SpellsRequest line block other → one ≡ other }
 {
     line_grammar::line_spells_one_head();
 }
@@ -89,12 +92,26 @@ pub fn head_is_no_fault()
     line_grammar::head_is_no_fault();
 }
 
-/// A line that ends the session spells nothing else.
+/// A line that ends the session spells nothing else, whatever block is taken with it: no head that does not end it, no
+/// request, and none of the faults of lines.
 ///
 /// The function does nothing: this law is its contract.
 pub fn quit_is_nothing_else()
-    ensures { (line : List ℕ) (head other : CollHead) → IsCollHead line head → coll_is_quit head ≡ true
-        → IsCollHead line other → coll_is_quit other ≡ true }
+    ensures heads { (line : List ℕ) (head : CollHead) → IsQuit line → IsCollHead line head → coll_is_quit head ≡ true }
+    ensures requests { (line block : List ℕ) (request : PlainRequest) → IsQuit line → SpellsRequest line block request → ⊥ }
+    ensures known { (line : List ℕ) → IsQuit line → IsCollUnknown line → ⊥ }
+    ensures well_formed { (line : List ℕ) → IsQuit line → IsCollBadFormat line → ⊥ }
+{
+    line_grammar::line_spells_one_head();
+    head_is_no_fault();
+}
+
+/// A line spells no request with a block that is not so many keys or fields as it names.
+///
+/// The function does nothing: this law is its contract.
+pub fn bad_block_is_no_request()
+    ensures { (line block : List ℕ) (request : PlainRequest) →
+        IsBadBlock line block → SpellsRequest line block request → ⊥ }
 {
     line_grammar::line_spells_one_head();
 }

@@ -6,8 +6,8 @@ ghost use Rattle.arc_core.specs.Rows.{one, gives, part_read, or_left_out, row_re
 ghost use Rattle.coll_grammar.specs.Parts.{fixed, said, taking_read, attributes_read, creation_read};
 
 use arc_core::{
-    Action, Answer, CollCommand, CollHead, CreateArgs, IndexRange, KeyRef, Kind, Take, WordIter,
-    read_number,
+    Action, Answer, CollCommand, CollHead, CreateArgs, IndexRange, KeyRef, Kind, MAX_FIELD_BYTES,
+    Take, WordIter, read_number,
 };
 use line_grammar::{next_exptime, next_from_1, no_reply};
 
@@ -19,9 +19,6 @@ const MAX_NEGATIVE: u64 = 2_147_483_648;
 
 /// The most bytes that a line may name for its block.
 const MAX_LEN: u64 = 2_147_483_647;
-
-/// The most bytes of a map's field.
-const MAX_FIELD_BYTES: usize = 250;
 
 /// The most fields that a line may name.
 const MAX_FIELDS: u64 = 50_000;

@@ -1,5 +1,7 @@
 //! Lines and their answers, worked by hand from the grammar.
 
+mod joins;
+
 use crate::{AllHeads, CollCommand, CollHead, LineFault, read_head};
 use Action::{Error, HeadTrim, TailTrim};
 use Answer::{NoReply, Plain};

@@ -1,18 +1,17 @@
 -- What the one answer to a line's words says of the line.
-use Rattle.std.proofs.Common.{◌≡◌, ℕ, true, false, List, [], ◌∷◌, refl, sym, ◌∙◌, ap, Option, Some, None, Result, Ok, Err, inl, inr}
+use Rattle.std.proofs.Common.{◌≡◌, ℕ, true, false, List, [], ◌∷◌, refl, sym, ◌∙◌, Option, Some, None, Result, Ok, Err, inl, inr}
 use Rattle.std.specs.Result.{IfOk}
 use Rattle.arc_core.specs.Words.{words}
-use Rattle.arc_core.specs.PlainRequest.{PlainRequest}
 use Rattle.arc_core.specs.declared.requests.StoreVerb.TheVariants as verb
 use Rattle.arc_core.specs.Rows.{Spells, row_read}
 use Rattle.arc_core.specs.declared.commands.CommandName.{CommandName}
 use Rattle.arc_core.specs.declared.commands.CommandName.TheVariants as named
 use Rattle.arc_core.specs.declared.commands.Head.{Head}
-use Rattle.arc_core.specs.Grammar.{IsHead, IsUnknown, IsBadFormat, IsBadBlock, IsQuit, SpellsRequest, act_of, request_of, command_of, row_of}
+use Rattle.arc_core.specs.Grammar.{IsHead, IsUnknown, IsBadFormat, command_of, row_of}
 use Rattle.line_grammar.specs.declared.faults.LineFault.{LineFault}
 use Rattle.line_grammar.specs.declared.faults.LineFault.TheVariants.{BadFormat}
 use Rattle.line_grammar.specs.Reading.{or_bad_format, answer_by, answer_to}
-use Rattle.line_grammar.proofs.RowLemmas.{IsClear, Some-same, Spells-from_row_read, row_read-from_Spells}
+use Rattle.line_grammar.proofs.RowLemmas.{IsClear, Spells-from_row_read, row_read-from_Spells}
 use Rattle.line_grammar.proofs.KeyValueRows.{store_row-is_clear, cas_row-is_clear, get_row-is_clear, mget_row-is_clear, count_row-is_clear, delete_row-is_clear, touch_row-is_clear, flush_all_row-is_clear}
 
 -- each row of the table is clear
@@ -66,26 +65,6 @@ Ok-same a b h = cc
 
 pub one_head : (line : List ℕ) (head other : Head) → IsHead line head → IsHead line other → head ≡ other
 one_head line head other h k = Ok-same {E = LineFault} head other (sym (answer-from_IsHead line head h) ∙ answer-from_IsHead line other k)
-
-pub one_request : (line block : List ℕ) (request other : PlainRequest) → SpellsRequest line block request → SpellsRequest line block other → request ≡ other
-one_request line block request other h k =
-    Some-same request other (sym h.3 ∙ ap (λ head. request_of head block) (one_head line h.0 k.0 h.1 k.1) ∙ k.3)
-
--- a line that ends the session spells no request, and nor does a line with keys that are not as many as it names
-
-None-is_no_Some : {A : Type 0} (a : A) → None ≡ Some a → ⊥
-None-is_no_Some a h = cc
-
-no_request : (line block : List ℕ) (request : PlainRequest) (head : Head) → IsHead line head → act_of head.command block ≡ None
-    → SpellsRequest line block request → ⊥
-no_request line block request head h none k =
-    None-is_no_Some request (sym (rw none refl) ∙ ap (λ head. request_of head block) (one_head line head k.0 h k.1) ∙ k.3)
-
-pub quit_is_no_request : (line block : List ℕ) (request : PlainRequest) → IsQuit line → SpellsRequest line block request → ⊥
-quit_is_no_request line block request h k = no_request line block request h.0 h.1 (rw h.2 refl) k
-
-pub bad_block_is_no_request : (line block : List ℕ) (request : PlainRequest) → IsBadBlock line block → SpellsRequest line block request → ⊥
-bad_block_is_no_request line block request h k = no_request line block request h.0 h.3 (rw (h.4, h.6) refl) k
 
 -- the format is bad where the row spells no head
 

@@ -18,8 +18,5 @@ mod tests;
 
 pub use arc_core::{BlockFault, Command, CommandName, Head};
 pub use faults::LineFault;
-pub use lines::{
-    KvHeads, bad_block_is_no_request, head_is_no_fault, line_spells_one_head, quit_is_no_request,
-    read_line,
-};
+pub use lines::{KvHeads, head_is_no_fault, line_spells_one_head, read_line};
 pub use parts::{next_exptime, next_from_1, no_reply};

@@ -2,9 +2,8 @@
 ghost use Rattle.std.specs.Prelude.{◌≡◌, ◌↔◌, false, List, ℕ, IfOk, Ok, Err, MatchResult};
 ghost use Rattle.arc_core.specs.declared.outside.Need.TheVariants as need;
 ghost use Rattle.arc_core.specs.Rows.{row_read};
-ghost use Rattle.arc_core.specs.PlainRequest.{PlainRequest};
 ghost use Rattle.arc_core.specs.declared.commands.Head.{Head};
-ghost use Rattle.arc_core.specs.Grammar.{IsHead, IsUnknown, IsBadFormat, IsBadBlock, IsQuit, SpellsRequest, line_needs, line_is_silent, need_of, is_silent, row_of};
+ghost use Rattle.arc_core.specs.Grammar.{IsHead, IsUnknown, IsBadFormat, line_needs, line_is_silent, need_of, is_silent, row_of};
 ghost use Rattle.line_grammar.specs.Reading.{answer_to};
 
 use crate::names::name_of;
@@ -63,14 +62,11 @@ fn read_row(name: CommandName, words: WordIter<'_>) -> Option<Head<'_>>
     }
 }
 
-/// A line spells at most one head, and a line and its block spell at most one request.
+/// A line spells at most one head.
 ///
 /// The function does nothing: this law is its contract.
 pub fn line_spells_one_head()
-    ensures heads { (line : List ℕ) (one other : Head) →
-        IsHead line one → IsHead line other → one ≡ other }
-    ensures requests { (line block : List ℕ) (one other : PlainRequest) →
-        SpellsRequest line block one → SpellsRequest line block other → one ≡ other }
+    ensures { (line : List ℕ) (one other : Head) → IsHead line one → IsHead line other → one ≡ other }
 {}
 
 /// A line that spells a head has none of the faults of lines.
@@ -79,25 +75,6 @@ pub fn line_spells_one_head()
 pub fn head_is_no_fault()
     ensures known { (line : List ℕ) (head : Head) → IsHead line head → IsUnknown line → ⊥ }
     ensures well_formed { (line : List ℕ) (head : Head) → IsHead line head → IsBadFormat line → ⊥ }
-{}
-
-/// A line that ends the session spells no request, whatever block is taken with it, and has none of the faults of
-/// lines.
-///
-/// The function does nothing: this law is its contract.
-pub fn quit_is_no_request()
-    ensures requests { (line block : List ℕ) (request : PlainRequest) →
-        IsQuit line → SpellsRequest line block request → ⊥ }
-    ensures known { (line : List ℕ) → IsQuit line → IsUnknown line → ⊥ }
-    ensures well_formed { (line : List ℕ) → IsQuit line → IsBadFormat line → ⊥ }
-{}
-
-/// A line whose block is not so many keys as it names spells no request with that block.
-///
-/// The function does nothing: this law is its contract.
-pub fn bad_block_is_no_request()
-    ensures { (line block : List ℕ) (request : PlainRequest) →
-        IsBadBlock line block → SpellsRequest line block request → ⊥ }
 {}
 
 /// Knows which key-value lines ask for a block.
