@@ -1,8 +1,6 @@
 -- What contracts see of a collection.
-use Rattle.std.specs.Prelude.{ℕ, []}
+use Rattle.std.specs.Prelude.{ℕ}
 use Rattle.arc_core.specs.declared.attributes.Attrs.{Attrs}
-use Rattle.arc_core.specs.declared.collections.Kind.{Kind}
-use Rattle.arc_core.specs.declared.collections.Kind.TheVariants as kind
 use Rattle.arc_core.specs.Item.{Contents, list, set, map}
 use Rattle.arc_core.specs.MapReading.{HaveDistinctFields}
 use Rattle.arc_core.specs.SetReading.{AreDistinct}
@@ -32,9 +30,3 @@ abbrev pub AreApart : Contents → Type 0
 AreApart (list values) = Unit {0}
 AreApart (set values) = AreDistinct values
 AreApart (map pairs) = HaveDistinctFields pairs
-
--- what a collection holds that is made; there are no trees yet, and a key-value item holds no elements
-abbrev pub empty_of : Kind → Contents
-empty_of kind.Set = set []
-empty_of kind.Map = map []
-empty_of _ = list []

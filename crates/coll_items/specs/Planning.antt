@@ -60,10 +60,16 @@ IsShort (planned.Puts element answer) = length (reply_text answer) < 2 ^ 64
 IsShort (planned.Removes removal drop_empty answer) = (dropped : Bool) → length (reply_text (reply_of answer dropped)) < 2 ^ 64
 IsShort planned.NoMemory = Unit {0}
 
--- Memory was not refused.
-abbrev pub HasMemory : Planned → Type 0
-HasMemory planned.NoMemory = ⊥
-HasMemory _ = Unit {0}
+-- Nothing takes memory: none was refused, and no element is to be put in.
+abbrev pub TakesNoMemory : Planned → Type 0
+TakesNoMemory planned.NoMemory = ⊥
+TakesNoMemory (planned.Puts element answer) = ⊥
+TakesNoMemory _ = Unit {0}
+
+-- Nothing is to be taken out.
+abbrev pub TakesNothingOut : Planned → Type 0
+TakesNothingOut (planned.Removes removal drop_empty answer) = ⊥
+TakesNothingOut _ = Unit {0}
 
 -- What is planned for a read of these elements, which may be taken out by a removal.
 abbrev pub IsTaken : (flags : ℕ) → List Row → Take → Removal → Planned → Type 0

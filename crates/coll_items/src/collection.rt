@@ -1,9 +1,10 @@
 //! A collection: its attributes and what it holds.
 ghost use Rattle.std.specs.Prelude.{◌≡◌, ◌<◌, ◌≤◌, ◌^◌, length, insert, OnOk};
+ghost use Rattle.arc_core.specs.CollectionRequests.{empty_of};
 ghost use Rattle.arc_core.specs.CollectionSize.{value_size};
 ghost use Rattle.arc_core.specs.Item.{IsCollection, contents_size};
 ghost use Rattle.coll_items.specs.Changing.{inserted, taken_out, perhaps_trimmed, end_size, room_asked, HasEnd, IsPlaceIn, FitsInto, SuitsInsertion, FitsOut};
-ghost use Rattle.coll_items.specs.Holding.{contents_of, spare_of, empty_of};
+ghost use Rattle.coll_items.specs.Holding.{contents_of, spare_of};
 
 use crate::{Elements, Insertion, Removal};
 use arc_core::{Attrs, Expiry, Kind, NoMemory, Side, Value};

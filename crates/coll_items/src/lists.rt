@@ -3,7 +3,7 @@ ghost use Rattle.std.specs.Prelude.{◌≡◌, ◌≤◌, ◌<◌, ◌-◌, true
 ghost use Rattle.arc_core.specs.CollectionRows.{plain_row};
 ghost use Rattle.arc_core.specs.CollectionStep.{on_list};
 ghost use Rattle.arc_core.specs.ListRows.{list_insert, list_delete, list_get, values_of};
-ghost use Rattle.coll_items.specs.Planning.{HasMemory, IsShort, Plans, SuitsPlan};
+ghost use Rattle.coll_items.specs.Planning.{IsShort, Plans, SuitsPlan, TakesNoMemory, TakesNothingOut};
 
 use crate::planned::{answered, put_row, taken};
 use crate::{Collection, Elements, Insertion, Planned, Removal, Removed};
@@ -27,6 +27,7 @@ pub fn insert_into_list<'a>(
     ensures plans { Plans false (on_list (list_insert index value.now)) collection.now result }
     ensures suits { SuitsPlan collection.now result }
     ensures short { IsShort result }
+    ensures puts { TakesNothingOut result }
 {
     let attrs = collection.attrs();
     let Elements::List(list) = collection.elements() else {
@@ -58,7 +59,7 @@ pub fn delete_from_list<'a>(
     ensures plans { Plans false (on_list (list_delete range drop_empty)) collection.now result }
     ensures suits { SuitsPlan collection.now result }
     ensures short { IsShort result }
-    ensures memory { HasMemory result }
+    ensures memory { TakesNoMemory result }
 {
     let Elements::List(list) = collection.elements() else {
         return answered(Word::TypeMismatch);

@@ -6,7 +6,7 @@ ghost use Rattle.arc_core.specs.Item.{IsField, map as map_of};
 ghost use Rattle.arc_core.specs.MapReading.{named_pairs};
 ghost use Rattle.arc_core.specs.MapRows.{map_insert, map_update, map_upsert, map_delete, map_get, pairs_asked, pairs_left};
 ghost use Rattle.coll_items.specs.Changing.{taken_out, FitsOut};
-ghost use Rattle.coll_items.specs.Planning.{HasMemory, IsShort, Plans, SuitsPlan, are_some};
+ghost use Rattle.coll_items.specs.Planning.{IsShort, Plans, SuitsPlan, TakesNoMemory, TakesNothingOut, are_some};
 
 use crate::planned::{answered, put_row, taken};
 use crate::{Collection, Elements, Insertion, Planned, Removal, Removed};
@@ -27,6 +27,7 @@ pub fn insert_into_map<'a>(
     ensures plans { Plans false (on_map (map_insert field.now value.now)) collection.now result }
     ensures suits { SuitsPlan collection.now result }
     ensures short { IsShort result }
+    ensures puts { TakesNothingOut result }
 {
     let attrs = collection.attrs();
     let Elements::Map(map) = collection.elements() else {
@@ -62,6 +63,7 @@ pub fn update_map<'a>(
     ensures plans { Plans false (on_map (map_update field.now value.now)) collection.now result }
     ensures suits { SuitsPlan collection.now result }
     ensures short { IsShort result }
+    ensures puts { TakesNothingOut result }
 {
     let Elements::Map(map) = collection.elements() else {
         return answered(Word::TypeMismatch);
@@ -91,6 +93,7 @@ pub fn upsert_map<'a>(
     ensures plans { Plans false (on_map (map_upsert field.now value.now)) collection.now result }
     ensures suits { SuitsPlan collection.now result }
     ensures short { IsShort result }
+    ensures puts { TakesNothingOut result }
 {
     let Elements::Map(map) = collection.elements() else {
         return answered(Word::TypeMismatch);
@@ -119,7 +122,7 @@ pub fn delete_from_map<'a>(
     ensures plans { Plans false (on_map (map_delete fields.now drop_empty)) collection.now result }
     ensures suits { SuitsPlan collection.now result }
     ensures short { IsShort result }
-    ensures memory { HasMemory result }
+    ensures memory { TakesNoMemory result }
 {
     let Elements::Map(map) = collection.elements() else {
         return answered(Word::TypeMismatch);

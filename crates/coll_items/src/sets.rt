@@ -3,7 +3,7 @@ ghost use Rattle.std.specs.Prelude.{◌≡◌, ◌≤◌, true, false, length, m
 ghost use Rattle.arc_core.specs.CollectionRows.{plain_row};
 ghost use Rattle.arc_core.specs.CollectionStep.{on_set};
 ghost use Rattle.arc_core.specs.SetRows.{set_insert, set_delete, set_exist, set_get};
-ghost use Rattle.coll_items.specs.Planning.{HasMemory, IsShort, Plans, SuitsPlan};
+ghost use Rattle.coll_items.specs.Planning.{IsShort, Plans, SuitsPlan, TakesNoMemory, TakesNothingOut};
 
 use crate::planned::{answered, put_row, taken};
 use crate::{Collection, Elements, Insertion, Planned, Removal, Removed};
@@ -18,6 +18,7 @@ pub fn insert_into_set<'a>(collection: &Collection, alloc: Global, value: &[u8])
     ensures plans { Plans false (on_set (set_insert value.now)) collection.now result }
     ensures suits { SuitsPlan collection.now result }
     ensures short { IsShort result }
+    ensures puts { TakesNothingOut result }
 {
     let attrs = collection.attrs();
     let Elements::Set(set) = collection.elements() else {
@@ -42,7 +43,7 @@ pub fn delete_from_set<'a>(collection: &Collection, value: &[u8], drop_empty: bo
     ensures plans { Plans false (on_set (set_delete value.now drop_empty)) collection.now result }
     ensures suits { SuitsPlan collection.now result }
     ensures short { IsShort result }
-    ensures memory { HasMemory result }
+    ensures memory { TakesNoMemory result }
 {
     let Elements::Set(set) = collection.elements() else {
         return answered(Word::TypeMismatch);
@@ -62,7 +63,7 @@ pub fn find_in_set<'a>(collection: &Collection, value: &[u8]) -> Planned<'a>
     ensures plans { Plans true (on_set (set_exist value.now)) collection.now result }
     ensures suits { SuitsPlan collection.now result }
     ensures short { IsShort result }
-    ensures memory { HasMemory result }
+    ensures memory { TakesNoMemory result }
 {
     let attrs = collection.attrs();
     let Elements::Set(set) = collection.elements() else {
