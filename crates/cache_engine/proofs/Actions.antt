@@ -1,16 +1,14 @@
 -- What the cache's commands on one key leave, as steps of the machine.
-use Rattle.std.proofs.Common.{◌≡◌, ◌≢◌, ℕ, ◌≤◌, Bool, true, false, cond, max, List, [], ◌∷◌, length, Option, Some, None, option_map, ℤ, pos, ◌-ℤ◌, ◌≤ℤ◌, inl, inr, refl, sym, ap, ◌∙◌, subst, arith}
-use Rattle.std.proofs.lemmas.Int.{ints}
-use Rattle.std.specs.Option.{option_map_or}
+use Rattle.std.proofs.Common.{◌≡◌, ◌≢◌, ℕ, Bool, true, false, cond, max, List, [], ◌∷◌, length, Option, Some, None, option_map, ℤ, inl, inr, refl, sym, ap, ◌∙◌, subst}
 use Rattle.arc_core.specs.declared.items.Expiry.{Expiry}
 use Rattle.arc_core.specs.declared.requests.StoreVerb.{StoreVerb}
 use Rattle.arc_core.specs.declared.replies.Reply.{Reply}
 use Rattle.arc_core.specs.declared.replies.Reply.TheVariants as reply
 use Rattle.arc_core.specs.declared.replies.Word.TheVariants as word
 use Rattle.arc_core.specs.PlainRequest as act
-use Rattle.arc_core.specs.Item.{Item, key_value, collection, size_of, expiry_of, with_expiry, expiry_at, has_expired, is_sticky}
-use Rattle.arc_core.specs.Places.{Places, found, brought_to_front, placed, without, total_of}
-use Rattle.arc_core.specs.Room.{room, evicted}
+use Rattle.arc_core.specs.Item.{Item, key_value, collection, expiry_of, with_expiry, expiry_at, has_expired, is_sticky}
+use Rattle.arc_core.specs.Places.{Places, found, brought_to_front, placed, without}
+use Rattle.arc_core.specs.Room.{evicted}
 use Rattle.arc_core.specs.CacheState.{CacheState}
 use Rattle.arc_core.specs.Step.{room_for, put_behind, plan_of_store, plan_of_count, plan_of_delete, plan_of_touch, carried_out, ended}
 use Rattle.arc_core.specs.Plan.{Plan}
@@ -61,16 +59,16 @@ module _ (old : CacheState) (now : ℕ) (key : List ℕ) (new : CacheState) (ans
 
   -- a word that is answered where the key's item is not live
 
-  not_live : (latest : ℕ) (o : Option Item) (s : KeyState) → s ≡ key_state_of latest o → (s ≡ key_state.Live → ⊥) → live_of latest o ≡ None
+  pub not_live : (latest : ℕ) (o : Option Item) (s : KeyState) → s ≡ key_state_of latest o → (s ≡ key_state.Live → ⊥) → live_of latest o ≡ None
   not_live latest None s is other = refl
   not_live latest (Some item) s is other = no_live_by latest item (has_expired latest (expiry_of item)) s is refl other
 
-  pub not_deleted : (s : KeyState) → s ≡ key_state_of (max old.latest now) (found key old.places) → (s ≡ key_state.Live → ⊥) → Answers old now key word.NotFound answer new → Acts old now (act.delete key) answer new
+  pub not_deleted : (s : KeyState) → s ≡ key_state_of (max old.latest now) (found key old.places) → (s ≡ key_state.Live → ⊥) → Answers old now key (reply.Word word.NotFound) answer new → Acts old now (act.delete key) answer new
   not_deleted s is other says =
       let none : found key (start_at old now key).places ≡ None = found_live (max old.latest now) key old.places ∙ not_live (max old.latest now) (found key old.places) s is other in
       inl (ap (λ o. ended (start_at old now key) (key ∷ []) (carried_out (start_at old now key) (plan_of_delete key o))) none ∙ says)
 
-  pub not_touched : (exptime : ℤ) (s : KeyState) → s ≡ key_state_of (max old.latest now) (found key old.places) → (s ≡ key_state.Live → ⊥) → Answers old now key word.NotFound answer new → Acts old now (act.touch key exptime) answer new
+  pub not_touched : (exptime : ℤ) (s : KeyState) → s ≡ key_state_of (max old.latest now) (found key old.places) → (s ≡ key_state.Live → ⊥) → Answers old now key (reply.Word word.NotFound) answer new → Acts old now (act.touch key exptime) answer new
   not_touched exptime s is other says =
       let none : found key (start_at old now key).places ≡ None = found_live (max old.latest now) key old.places ∙ not_live (max old.latest now) (found key old.places) s is other in
       inl (ap (λ o. ended (start_at old now key) (key ∷ []) (carried_out (start_at old now key) (plan_of_touch (start_at old now key) key exptime o))) none ∙ says)

@@ -10,6 +10,7 @@ use Rattle.arc_core.specs.declared.replies.Word.TheVariants as word
 use Rattle.arc_core.specs.PlainRequest.{PlainAct, PlainRequest}
 use Rattle.arc_core.specs.PlainRequest as act
 use Rattle.arc_core.specs.Words.{number_below}
+use Rattle.arc_core.specs.CollectionRequests.{empty_of}
 use Rattle.arc_core.specs.Item.{Item, key_value, collection, size_of, expiry_of, is_sticky}
 use Rattle.arc_core.specs.Places.{placed, total_of}
 use Rattle.arc_core.specs.CacheState.{CacheState, IsState}
@@ -19,6 +20,7 @@ use Rattle.byte_account.specs.declared.room.Room.TheVariants.{Fits, Nothing}
 use Rattle.byte_account.specs.ShelfWords.{room_answer}
 use Rattle.byte_account.proofs.RoomLaws.{IsLeastEviction-room, room-nothing_added, fits_nothing_added}
 use Rattle.byte_account.proofs.MovedLaws.{evicted-none}
+use Rattle.cache_engine.proofs.CollectionReplies.{says, IsOther, either, asked-is_other, create-is_other}
 use Rattle.cache_engine.specs.Evicting.{MakesRoom, EvictsLeast, has_share, EvictsNothing}
 
 module _ (state : CacheState) (key : List ℕ) (item : Item) where
@@ -69,26 +71,11 @@ answers state new reply answer e = sym (ap (λ o. (unwrap_or {T = CacheState × 
 
 -- no row of the table answers `out of memory`
 
-says : Plan → Reply
-says (answer_only reply) = reply
-says (put key item counter reply) = reply
-says (take_away key reply) = reply
-says (take_all reply) = reply
-
-IsOther : Plan → Type 0
-IsOther plan = says plan ≡ answer.Word word.OutOfMemory → ⊥
-
-either : (b : Bool) (p q : Plan) → IsOther p → IsOther q → IsOther (cond b p q)
-either true p q here there = here
-either false p q here there = there
-
 module _ (state : CacheState) (key : List ℕ) where
   joined-is_other : (flags : ℕ) (expiry : Expiry) (value : List ℕ) → IsOther (put_joined state key flags expiry value)
-  unfolding says IsOther
   joined-is_other flags expiry value = either (nat_lt 1048576 (length value)) _ _ (λ e. absurd (cc)) (λ e. absurd (cc))
 
   store-is_other : (verb : StoreVerb) (flags : ℕ) (exptime : ℤ) (value : List ℕ) (held : Option Item) → IsOther (plan_of_store state verb key flags exptime value held)
-  unfolding says IsOther
   store-is_other verb flags exptime value (Some (collection attrs contents)) = λ e. absurd (cc)
   store-is_other verb.Set flags exptime value None = λ e. absurd (cc)
   store-is_other verb.Set flags exptime value (Some (key_value old expiry unique was)) = λ e. absurd (cc)
@@ -104,29 +91,24 @@ module _ (state : CacheState) (key : List ℕ) where
   store-is_other (verb.Cas asked) flags exptime value (Some (key_value old expiry unique was)) = either (unique == asked) _ _ (λ e. absurd (cc)) (λ e. absurd (cc))
 
   next-is_other : (up : Bool) (delta flags : ℕ) (expiry : Expiry) (number : Option ℕ) → IsOther (plan_of_next state up key delta flags expiry number)
-  unfolding says IsOther
   next-is_other up delta flags expiry None = λ e. absurd (cc)
   next-is_other up delta flags expiry (Some n) = λ e. absurd (cc)
 
   count-is_other : (up : Bool) (delta : ℕ) (initial : Option (ℕ × ℤ × ℕ)) (held : Option Item) → IsOther (plan_of_count state up key delta initial held)
-  unfolding says IsOther
   count-is_other up delta None None = λ e. absurd (cc)
   count-is_other up delta (Some initial) None = λ e. absurd (cc)
   count-is_other up delta initial (Some (key_value flags expiry unique value)) = next-is_other up delta flags expiry (number_below (2 ^ 64) value)
   count-is_other up delta initial (Some (collection attrs contents)) = λ e. absurd (cc)
 
   delete-is_other : (held : Option Item) → IsOther (plan_of_delete key held)
-  unfolding says IsOther
   delete-is_other None = λ e. absurd (cc)
   delete-is_other (Some item) = λ e. absurd (cc)
 
   touch-is_other : (exptime : ℤ) (held : Option Item) → IsOther (plan_of_touch state key exptime held)
-  unfolding says IsOther
   touch-is_other exptime None = λ e. absurd (cc)
   touch-is_other exptime (Some item) = λ e. absurd (cc)
 
 plan-is_other : (state : CacheState) (a : PlainAct) → IsOther (plan_of state a)
-unfolding says IsOther
 plan-is_other state (act.store verb key flags exptime value) = store-is_other state key verb flags exptime value _
 plan-is_other state (act.get keys unique) = λ e. absurd (cc)
 plan-is_other state (act.count up key delta initial) = count-is_other state key up delta initial _
@@ -134,20 +116,20 @@ plan-is_other state (act.delete key) = delete-is_other state key _
 plan-is_other state (act.touch key exptime) = touch-is_other state key exptime _
 plan-is_other state act.flush_all = λ e. absurd (cc)
 plan-is_other state act.version = λ e. absurd (cc)
+plan-is_other state (act.make kind key args) = create-is_other state.latest state.counter key args (empty_of kind) _
+plan-is_other state (act.on_collection key asked) = asked-is_other state.latest state.counter key asked _
 
 put_says : (gone : Option (List (List ℕ × Item))) (after : List (List ℕ × Item) → CacheState) (reply : Reply) (done : CacheState × Reply) → option_map {U = CacheState × Reply} (λ g. (after g, reply)) gone ≡ Some done → done.1 ≡ reply
 put_says None after reply done e = absurd (cc)
 put_says (Some gone) after reply done e = sym (ap (λ o. (unwrap_or {T = CacheState × Reply} o done).1) e)
 
 done_says : (state : CacheState) (plan : Plan) (done : CacheState × Reply) → carried_out state plan ≡ Some done → done.1 ≡ says plan
-unfolding says
 done_says state (answer_only reply) done e = sym (ap (λ o. (unwrap_or {T = CacheState × Reply} o done).1) e)
 done_says state (put key item counter reply) done e = put_says (room_for state key item) _ reply done e
 done_says state (take_away key reply) done e = sym (ap (λ o. (unwrap_or {T = CacheState × Reply} o done).1) e)
 done_says state (take_all reply) done e = sym (ap (λ o. (unwrap_or {T = CacheState × Reply} o done).1) e)
 
 stays_by : (start : CacheState) (keys : List (List ℕ)) (plan : Plan) (o : Option (CacheState × Reply)) → IsOther plan → carried_out start plan ≡ o → (ended start keys o).1 ≡ answer.Word word.OutOfMemory → (ended start keys o).0 ≡ start
-unfolding IsOther
 stays_by start keys plan None other h e = refl
 stays_by start keys plan (Some done) other h e = absurd (other (sym (done_says start plan done h) ∙ e))
 

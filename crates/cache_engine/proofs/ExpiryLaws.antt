@@ -5,10 +5,9 @@ use Rattle.std.specs.Bool.{beq}
 use Rattle.std.specs.Option.{option_flatten, option_map_or}
 use Rattle.std.specs.FinMap as finite
 use Rattle.arc_core.specs.declared.items.Expiry.{Expiry}
-use Rattle.arc_core.specs.Item.{Item, key_value, collection, size_of, is_sticky, with_expiry}
+use Rattle.arc_core.specs.Item.{Item, IsItem, key_value, collection, size_of, is_sticky, with_expiry}
 use Rattle.arc_core.specs.Places.{Places, HasEachKeyOnce, found, placed, refilled, total_of, sticky_total_of}
 use Rattle.arc_core.specs.Room.{share_fits, room}
-use Rattle.byte_account.specs.declared.room.Room.{Room}
 use Rattle.byte_account.specs.declared.room.Room.TheVariants.{Fits, Nothing}
 use Rattle.byte_account.specs.Accounting.{HasShareFor}
 use Rattle.byte_account.specs.Weight.{place_weight, weight_under}
@@ -20,12 +19,12 @@ use Rattle.byte_account.proofs.RoomLaws.{room-nothing_added, fits_nothing_added}
 use Rattle.byte_account.proofs.StoreLaws.{contains-refilled, refilled-refilled, placed-held}
 use Rattle.byte_account.proofs.MovedLaws.{refilled-made}
 use Rattle.byte_account.proofs.PutLaws.{fits_within}
+use Rattle.coll_items.proofs.SizeLemmas.{contents_small}
 use Rattle.cache_engine.specs.declared.stored.Stored.{Stored}
-use Rattle.cache_engine.specs.declared.stored.Stored.TheVariants as stored
 use Rattle.cache_engine.specs.Stored.{item_of, Holds}
 use Rattle.cache_engine.specs.Putting.{weigh, sticky_of}
 use Rattle.cache_engine.specs.SettingExpiry.{IsHeld, sticky_added, room_for_expiry, HasExpiryThere, HasExpiryOnShelf, HasNoRoomOnShelf, IsRefusedOnShelf, Crosses}
-use Rattle.cache_engine.proofs.Holding.{once, held, held_on}
+use Rattle.cache_engine.proofs.Holding.{once, held, held_on, held_keeps}
 
 -- an expiry has no size
 size_stays : (key : List ℕ) (expiry : Expiry) (item : Item) → size_of key (with_expiry expiry item) ≡ size_of key item
@@ -41,9 +40,13 @@ two_some x y h = cc
 abbrev pw : List ℕ → Option Stored → ℕ
 pw = place_weight weigh
 
--- a stated size is small under a key
-pub size_small : (key : List ℕ) (item : Stored) → length key ≤ 16000 → weigh key item < 2 ^ 63
-size_small key (stored.KeyValue item) ok = omega (arith, ok, item.fits)
+size_small : (key : List ℕ) (item : Item) → length key ≤ 16000 → IsItem item → size_of key item < 2 ^ 63
+size_small key (key_value flags expiry unique value) short is = omega (arith, short, is)
+size_small key (collection attrs contents) short is = omega (arith, short, contents_small attrs contents is)
+
+-- what is held has a small stated size
+pub held_small : (key : List ℕ) (places : Places (Option Stored)) (item : Stored) → length key ≤ 16000 → Holds places → item_at key places ≡ Some item → weigh key item < 2 ^ 63
+held_small key places item short holds at = size_small key (item_of item) short (held_keeps key places item holds at)
 
 -- the item is taken out of its place and laid there again
 module _ (key : List ℕ) (expiry : Expiry) (places : Places (Option Stored)) (was item is : Stored) (there : found key places ≡ Some (Some was)) (lifted : Some item ≡ item_at key places) (expires : item_of is ≡ with_expiry expiry (item_of item)) where

@@ -1,19 +1,17 @@
 -- What a shelf that holds items has under a key, and what it holds after each change.
-use Rattle.std.proofs.Common.{◌≡◌, ℕ, Bool, true, false, not, List, Option, Some, None, option_map, is_some, bytes_eq, refl, sym, ap, ◌∙◌, subst}
+use Rattle.std.proofs.Common.{◌≡◌, ℕ, Bool, true, false, List, Option, Some, None, option_map, bytes_eq, refl, sym, ap, ◌∙◌, subst}
 use Rattle.std.specs.Option.{option_or, option_flatten}
-use Rattle.std.specs.Bool.{beq}
 use Rattle.std.specs.Map.{lookup}
 use Rattle.std.specs.FinMap as finite
-use Rattle.arc_core.specs.Item.{Item}
+use Rattle.arc_core.specs.Item.{Item, IsItem}
 use Rattle.arc_core.specs.Places.{Places, HasEachKeyOnce, found}
 use Rattle.arc_core.specs.CacheState.{ArePlaced}
 use Rattle.byte_account.specs.Filled.{map_places, filled, items_of, IsFilled}
 use Rattle.byte_account.specs.ShelfWords.{item_at, on_side}
-use Rattle.byte_account.proofs.PlacesLaws.{not_on_shelf}
 use Rattle.byte_account.proofs.FilledLaws.{found-map, lookup-map, get-map_values, HasEachKeyOnce-map, HasEachKeyOnce-from_map, items_of-filled, IsFilled-filled}
 use Rattle.cache_engine.specs.declared.stored.Stored.{Stored}
 use Rattle.cache_engine.specs.Stored.{item_of, items_in, Holds}
-use Rattle.cache_engine.specs.Putting.{sticky_of, IsHeldOn}
+use Rattle.cache_engine.specs.Putting.{sticky_of}
 
 abbrev pub put_in : Stored → Option Stored
 put_in item = Some item
@@ -47,6 +45,10 @@ held_by (Some x) p item e h = let k : option_flatten p ≡ Some x = ap option_fl
 
 pub held : (key : List ℕ) (places : Places (Option Stored)) (item : Stored) → IsFilled places → item_at key places ≡ Some item → found key places ≡ Some (Some item)
 held key places item filled h = held_by (found key (items_of places)) (found key places) item (found-filled key places filled) h
+
+-- what is held keeps the rules on items
+pub held_keeps : (key : List ℕ) (places : Places (Option Stored)) (item : Stored) → Holds places → item_at key places ≡ Some item → IsItem (item_of item)
+held_keeps key places item holds at = holds.placed.items key (item_of item) (found-items key places holds.filled ∙ ap (option_map item_of) at)
 
 -- no key has two places
 pub once : (places : Places (Option Stored)) → Holds places → HasEachKeyOnce places

@@ -1,7 +1,7 @@
 -- What the shelf holds after each change, as the machine's items in their places.
 use Rattle.std.proofs.Common.{◌≡◌, ℕ, Bool, true, false, cond, List, [], ◌∷◌, length, IsSome, Option, Some, None, option_map, is_some, ℤ, pos, ◌-ℤ◌, bytes_eq, Bor, refl, sym, ap, ◌∙◌, subst, arith}
 use Rattle.std.proofs.lemmas.Int.{ints}
-use Rattle.std.specs.Option.{option_or, option_map_or, option_flatten, option_copied}
+use Rattle.std.specs.Option.{option_or, option_flatten, option_copied}
 use Rattle.std.specs.Map.{lookup}
 use Rattle.std.specs.FinMap as finite
 use Rattle.std.proofs.lemmas.List.{length-map}
@@ -23,7 +23,6 @@ use Rattle.byte_account.proofs.MovedLaws.{evicted-none}
 use Rattle.std.specs.Ordering.{nat_cmp}
 use Rattle.std.specs.Cmp.Lexicographic.{slice_cmp}
 use Rattle.cache_engine.specs.declared.stored.Stored.{Stored}
-use Rattle.cache_engine.specs.declared.stored.Stored.TheVariants as stored
 use Rattle.byte_account.specs.declared.put.Put.{Put}
 use Rattle.byte_account.specs.declared.put.Put.TheVariants as put
 use Rattle.cache_engine.specs.Stored.{item_of, items_in, Holds}
@@ -32,7 +31,7 @@ use Rattle.byte_account.specs.Putting as shelf
 use Rattle.byte_account.specs.ShelfWords.{item_at}
 use Rattle.cache_engine.specs.SettingExpiry.{sticky_added, room_for_expiry, HasExpiryOnShelf, SetsExpiryOnShelf}
 use Rattle.cache_engine.specs.Changes.{evicted_for, Puts, HasExpiry, SetsExpiry}
-use Rattle.cache_engine.proofs.Holding.{put_in, HoldsItems, filled_with, found-filled, found-items}
+use Rattle.cache_engine.proofs.Holding.{put_in, HoldsItems, filled_with, found-filled, found-items, held_keeps}
 
 -- an item keeps its rules, on the side where it belongs
 abbrev pub Belongs : Bool → Item → Type 0
@@ -75,10 +74,6 @@ ArePlaced-placed key item places ok are =
 pub ArePlaced-empty : (limit share : ℕ) → ArePlaced (empty_places limit share)
 ArePlaced-empty limit share = placed_from (empty_places limit share) (AllOnSides-empty Belongs limit share) (HasEachKeyOnce-empty size_of limit share)
 
--- each stored item keeps the rules on items
-pub stored_is_item : (item : Stored) → IsItem (item_of item)
-stored_is_item (stored.KeyValue item) = item.fits
-
 map-empty : {X Y : Type 0} (f : X → Y) (limit share : ℕ) → map_places f (empty_places limit share) ≡ empty_places limit share
 map-empty {X} {Y} f limit share =
     let none = same_map (map_values f (finite.empty {X = X} {R = slice_cmp nat_cmp})) finite.empty (λ q. get-map_values f finite.empty q ∙ ap (option_map f) (finite.get-empty (slice_cmp nat_cmp) q) ∙ sym (finite.get-empty (slice_cmp nat_cmp) q)) in
@@ -96,12 +91,12 @@ pub HoldsItems-empty : (limit share : ℕ) (new : Places (Option Stored)) → ne
 HoldsItems-empty limit share new e =
     filled_with new (empty_places limit share) (empty_places limit share) (e ∙ sym (map-empty put_in limit share)) (map-empty item_of limit share) (ArePlaced-empty limit share)
 
-pub HoldsItems-placed : (key : List ℕ) (item : Stored) (n : ℕ) (old new : Places (Option Stored)) → Holds old → new ≡ placed (sticky_of item) key (Some item) (evicted key n old) → HoldsItems new (put_behind n key (item_of item) (items_in old))
-HoldsItems-placed key item n old new holds e =
+pub HoldsItems-placed : (key : List ℕ) (item : Stored) (n : ℕ) (old new : Places (Option Stored)) → IsItem (item_of item) → Holds old → new ≡ placed (sticky_of item) key (Some item) (evicted key n old) → HoldsItems new (put_behind n key (item_of item) (items_in old))
+HoldsItems-placed key item n old new ok holds e =
     filled_with new (placed (sticky_of item) key item (evicted key n (items_of old))) (put_behind n key (item_of item) (items_in old))
     (e ∙ ap (λ p. placed (sticky_of item) key (Some item) (evicted key n p)) holds.filled ∙ ap (placed (sticky_of item) key (Some item)) (evicted-map put_in key n (items_of old)) ∙ placed-map put_in (sticky_of item) key item (evicted key n (items_of old)))
     (sym (placed-map item_of (sticky_of item) key item (evicted key n (items_of old))) ∙ ap (placed (sticky_of item) key (item_of item)) (sym (evicted-map item_of key n (items_of old))))
-    (ArePlaced-placed key (item_of item) (evicted key n (items_in old)) (stored_is_item item) (ArePlaced-evicted key n (items_in old) holds.placed))
+    (ArePlaced-placed key (item_of item) (evicted key n (items_in old)) ok (ArePlaced-evicted key n (items_in old) holds.placed))
 
 -- room, as the items have it
 
@@ -124,7 +119,7 @@ module _ (key : List ℕ) (places : Places (Option Stored)) (filled_is : IsFille
   none_by None e f h = f
   none_by (Some gone) e f h = absurd (let k : ◌≡◌ {A = Option (List (List ℕ × Option Stored))} (Some (map_listed put_in gone)) None = sym e ∙ h in cc)
 
-  no_room : room (place_weight weigh) places key extra sticky_extra ≡ None → room size_of (items_in places) key extra sticky_extra ≡ None
+  pub no_room : room (place_weight weigh) places key extra sticky_extra ≡ None → room size_of (items_in places) key extra sticky_extra ≡ None
   no_room = none_by stored_room room_shelf room_items
 
   gone_by : (o : Option (List (List ℕ × Stored))) (gone : List (List ℕ × Option Stored)) → room (place_weight weigh) places key extra sticky_extra ≡ option_map (map_listed put_in) o
@@ -135,7 +130,7 @@ module _ (key : List ℕ) (places : Places (Option Stored)) (filled_is : IsFille
       let k : ◌≡◌ {A = Option (List (List ℕ × Option Stored))} (Some (map_listed put_in some)) (Some gone) = sym e ∙ h in
       (map_listed item_of some, f, length-map some (λ place. (place.0, item_of place.1)) ∙ sym (length-map some (λ place. (place.0, put_in place.1))) ∙ ap length (some_some (map_listed put_in some) gone k))
 
-  some_room : (gone : List (List ℕ × Option Stored)) → room (place_weight weigh) places key extra sticky_extra ≡ Some gone → (less : List (List ℕ × Item)) × (room size_of (items_in places) key extra sticky_extra ≡ Some less) × (length less ≡ length gone)
+  pub some_room : (gone : List (List ℕ × Option Stored)) → room (place_weight weigh) places key extra sticky_extra ≡ Some gone → (less : List (List ℕ × Item)) × (room size_of (items_in places) key extra sticky_extra ≡ Some less) × (length less ≡ length gone)
   some_room gone = gone_by stored_room gone room_shelf room_items
 
 -- what stands under a key weighs as much among the items
@@ -180,14 +175,14 @@ pub record Leaves (places : Places (Option Stored)) (What : Places Item → Type
   pub holds : Holds places
   pub what : What (items_in places)
 
-pub put_leaves : (key : List ℕ) (item : Stored) (old new : Places (Option Stored)) (answer : Put) → Holds old → PutsOnShelf key item old new answer → Leaves new (λ items. Puts key (item_of item) (items_in old) items answer)
-put_leaves key item old new put.Done holds h =
+pub put_leaves : (key : List ℕ) (item : Stored) (old new : Places (Option Stored)) (answer : Put) → IsItem (item_of item) → Holds old → PutsOnShelf key item old new answer → Leaves new (λ items. Puts key (item_of item) (items_in old) items answer)
+put_leaves key item old new put.Done ok holds h =
     let g = some_room key old holds.filled _ _ h.gone h.fits in
-    let after = HoldsItems-placed key item (length h.gone) old new holds h.places in
+    let after = HoldsItems-placed key item (length h.gone) old new ok holds h.places in
     record { holds = after.holds; what = record { gone = g.0; fits = evicted_same key item old holds ∙ g.1; places = after.are ∙ ap (λ n. put_behind n key (item_of item) (items_in old)) (sym g.2) } }
-put_leaves key item old new put.NoRoom holds h =
+put_leaves key item old new put.NoRoom ok holds h =
     record { holds = subst (λ p. Holds p) (sym h.1) holds; what = (evicted_same key item old holds ∙ no_room key old holds.filled _ _ h.0, ap items_in h.1) }
-put_leaves key item old new put.NoMemory holds h =
+put_leaves key item old new put.NoMemory ok holds h =
     record { holds = subst (λ p. Holds p) (sym h) holds; what = ap items_in h }
 
 -- what another expiry leaves
@@ -222,7 +217,7 @@ no_one : {A : Type 0} (xs : List A) → length xs ≡ 0 → xs ≡ []
 no_one [] h = refl
 no_one (x ∷ xs) h = absurd (omega arith)
 
-there_is : (key : List ℕ) (places : Places (Option Stored)) (was : Stored) → Holds places → found key places ≡ Some (Some was) → found key (items_in places) ≡ Some (item_of was)
+pub there_is : (key : List ℕ) (places : Places (Option Stored)) (was : Stored) → Holds places → found key places ≡ Some (Some was) → found key (items_in places) ≡ Some (item_of was)
 there_is key places was holds h = found-items key places holds.filled ∙ ap (λ o. option_map item_of (option_flatten o)) h
 
 roomy_items : (key : List ℕ) (expiry : Expiry) (places : Places (Option Stored)) (was : Stored) → Holds places → found key places ≡ Some (Some was) → room_for_expiry expiry key was places ≡ Some [] → evicted_for key (with_expiry expiry (item_of was)) (items_in places) ≡ Some []
@@ -230,14 +225,15 @@ roomy_items key expiry places was holds h fits =
     let g = some_room key places holds.filled (pos 0) (sticky_added expiry key was) [] fits in
     expiry_same key expiry was places (there_is key places was holds h) ∙ g.1 ∙ ap (λ l. Some l) (no_one g.0 g.2)
 
-same_item : (key : List ℕ) (places : Places (Option Stored)) (was : Stored) (item : Item) → Holds places → found key places ≡ Some (Some was) → found key (items_in places) ≡ Some item → item_of was ≡ item
+pub same_item : (key : List ℕ) (places : Places (Option Stored)) (was : Stored) (item : Item) → Holds places → found key places ≡ Some (Some was) → found key (items_in places) ≡ Some item → item_of was ≡ item
 same_item key places was item holds h there = some_some (item_of was) item (sym (there_is key places was holds h) ∙ there)
 
 expiry_leaves : (key : List ℕ) (expiry : Expiry) (old new : Places (Option Stored)) → Holds old → HasExpiryOnShelf key expiry old new → Leaves new (λ items. HasExpiry key expiry (items_in old) items)
 expiry_leaves key expiry old new holds r =
     let side : sticky_of r.is ≡ is_sticky expiry = ap (λ i. is_sticky (expiry_of i)) r.expires ∙ sticky_stays expiry (item_of r.was) in
     let made : new ≡ placed (sticky_of r.is) key (Some r.is) (evicted key 0 old) = r.places ∙ (λ i. placed (sym side i) key (Some r.is) (sym (evicted-none key old) i)) in
-    let after = HoldsItems-placed key r.is 0 old new holds made in
+    let ok : IsItem (item_of r.is) = subst IsItem (sym r.expires) (stays_item expiry (item_of r.was) (held_keeps key old r.was holds (ap option_flatten r.held))) in
+    let after = HoldsItems-placed key r.is 0 old new ok holds made in
     let are : items_in new ≡ placed (is_sticky expiry) key (with_expiry expiry (item_of r.was)) (items_in old) =
     after.are ∙ ap (placed (sticky_of r.is) key (item_of r.is)) (evicted-none key (items_in old)) ∙ (λ i. placed (side i) key (r.expires i) (items_in old)) in
     record { holds = after.holds; what = record { item = item_of r.was; held = there_is key old r.was holds r.held; fits = roomy_items key expiry old r.was holds r.held r.fits; places = are } }

@@ -2,7 +2,6 @@
 use Rattle.std.specs.Prelude.{◌≡◌, ◌⊎◌, ℕ, List, [], ◌∷◌}
 use Rattle.arc_core.specs.declared.replies.Reply.{Reply}
 use Rattle.arc_core.specs.declared.replies.Reply.TheVariants as reply
-use Rattle.arc_core.specs.declared.replies.Word.{Word}
 use Rattle.arc_core.specs.declared.replies.Word.TheVariants as word
 use Rattle.arc_core.specs.PlainRequest.{PlainAct}
 use Rattle.arc_core.specs.CacheState.{CacheState}
@@ -14,9 +13,9 @@ use Rattle.arc_core.specs.Plan.{Plan, answer_only}
 abbrev pub start_at : CacheState → ℕ → List ℕ → CacheState
 start_at old now key = started old now (key ∷ [])
 
--- The word is answered by the machine's rules, and the item under the key left as it is.
-abbrev pub Answers : CacheState → ℕ → List ℕ → Word → Reply → CacheState → Type 0
-Answers old now key word answer new = ended (start_at old now key) (key ∷ []) (carried_out (start_at old now key) (answer_only (reply.Word word))) ≡ (new, answer)
+-- It is answered so by the machine's rules, and the item under the key left as it is.
+abbrev pub Answers : CacheState → ℕ → List ℕ → (said : Reply) → Reply → CacheState → Type 0
+Answers old now key said answer new = ended (start_at old now key) (key ∷ []) (carried_out (start_at old now key) (answer_only said)) ≡ (new, answer)
 
 -- The plan for this key is carried out by the machine's rules, or memory was refused and nothing has changed.
 abbrev pub Finishes : CacheState → ℕ → List ℕ → Plan → Reply → CacheState → Type 0

@@ -1,11 +1,16 @@
 -- What changes of the held items leave.
-use Rattle.std.specs.Prelude.{◌≡◌, ◌≢◌, ℕ, List, [], length, Option, Some, None}
+use Rattle.std.specs.Prelude.{◌≡◌, ◌≢◌, ◌&&◌, ℕ, Bool, true, false, List, [], length, Option, Some, None}
+use Rattle.arc_core.specs.declared.attributes.Attrs.{Attrs}
 use Rattle.arc_core.specs.declared.items.Expiry.{Expiry}
-use Rattle.arc_core.specs.Item.{Item, expiry_of, is_sticky, with_expiry}
-use Rattle.arc_core.specs.Places.{Places, found, placed}
+use Rattle.arc_core.specs.CollectionRows.{is_empty}
+use Rattle.arc_core.specs.Item.{Contents, Item, collection, expiry_of, is_sticky, with_expiry}
+use Rattle.arc_core.specs.Places.{Places, found, placed, without}
 use Rattle.arc_core.specs.Step.{put_behind, room_for}
 use Rattle.byte_account.specs.declared.put.Put.{Put}
 use Rattle.byte_account.specs.declared.put.Put.TheVariants as put
+use Rattle.coll_items.specs.Changing.{inserted, taken_out, SuitsInsertion, FitsOut}
+use Rattle.coll_items.specs.declared.changes.Insertion.{Insertion}
+use Rattle.coll_items.specs.declared.changes.Removal.{Removal}
 use Rattle.cache_engine.specs.Planning.{state_at}
 
 -- what is evicted for an item under the key, or none where there is no room for it
@@ -42,3 +47,35 @@ SetsExpiry key expiry old new put.Done = HasExpiry key expiry old new
 SetsExpiry key expiry old new put.NoRoom = ((item : Item) → found key old ≡ Some item → evicted_for key (with_expiry expiry item) old ≡ None) × (new ≡ old)
 SetsExpiry key expiry old new put.NoMemory =
     ((item : Item) → found key old ≡ Some item → (is_sticky (expiry_of item) ≢ is_sticky expiry) × (evicted_for key (with_expiry expiry item) old ≢ None)) × (new ≡ old)
+
+-- A collection is held under the key that this element suits.
+pub record SuitsUnder (key : List ℕ) (element : Insertion) (places : Places Item) : Type 0 where
+  pub attrs : Attrs
+  pub contents : Contents
+  pub held : found key places ≡ Some (collection attrs contents)
+  pub suits : SuitsInsertion element attrs contents
+
+-- What putting an element into the collection under the key leaves, by its answer: it is there, behind as few evictions as
+-- make room; there was no room; or for want of memory nothing has changed.
+abbrev pub Inserts : List ℕ → Insertion → Places Item → Places Item → Put → Type 0
+Inserts key element old new answer =
+    (attrs : Attrs) (contents : Contents) → found key old ≡ Some (collection attrs contents) → Puts key (collection attrs (inserted element contents)) old new answer
+
+-- A collection is held under the key that has the elements which this removal takes out.
+pub record FitsUnder (key : List ℕ) (removal : Removal) (places : Places Item) : Type 0 where
+  pub attrs : Attrs
+  pub contents : Contents
+  pub held : found key places ≡ Some (collection attrs contents)
+  pub fits : FitsOut removal contents
+
+-- What stands under the key where the collection is dropped, or else what is left of it.
+abbrev pub Leaves : List ℕ → (left : Item) → Places Item → Places Item → (dropped : Bool) → Type 0
+Leaves key left old new true = new ≡ without key old
+Leaves key left old new false = Puts key left old new put.Done
+
+-- What taking elements out of the collection under the key leaves: it is dropped exactly where it is empty then and
+-- `drop_empty` says so.
+abbrev pub Removes : List ℕ → Removal → (drop_empty : Bool) → Places Item → Places Item → (dropped : Bool) → Type 0
+Removes key removal drop_empty old new dropped =
+    (attrs : Attrs) (contents : Contents) → found key old ≡ Some (collection attrs contents)
+    → (dropped ≡ (drop_empty && is_empty (taken_out removal contents))) × Leaves key (collection attrs (taken_out removal contents)) old new dropped

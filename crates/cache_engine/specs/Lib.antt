@@ -1,9 +1,11 @@
 pub mod Stored
 pub mod Putting
 pub mod SettingExpiry
+pub mod Changing
 pub mod Planning
 pub mod Changes
 pub mod Starting
 pub mod Acting
+pub mod Asking
 pub mod Retrieving
 pub mod Evicting

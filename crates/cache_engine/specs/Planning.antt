@@ -1,6 +1,5 @@
 -- What the commands on one key want done, as the code has it.
-use Rattle.std.specs.Prelude.{◌≡◌, ◌<◌, ◌^◌, ℕ, length, List, Option, option_map, Result, Ok, Err}
-use Rattle.std.specs.Borrow.{Bor}
+use Rattle.std.specs.Prelude.{◌≡◌, ◌<◌, ◌^◌, ℕ, length, List, Result, Ok, Err}
 use Rattle.arc_core.specs.declared.replies.Reply.TheVariants as reply
 use Rattle.arc_core.specs.declared.replies.Word.TheVariants as word
 use Rattle.arc_core.specs.Item.{Item}
@@ -18,10 +17,6 @@ use Rattle.cache_engine.specs.declared.plans.Planned.TheVariants as planned
 -- a state of the machine
 abbrev pub state_at : ℕ → ℕ → Places Item → CacheState
 state_at latest counter places = record { latest = latest; counter = counter; places = places }
-
--- the item that is held, as the machine's
-abbrev pub held_item : Option (Bor KvItem) → Option Item
-held_item = option_map (λ item. plain_item item.now)
 
 -- What is planned is this plan of the machine, or memory was refused.
 abbrev pub Plans : List ℕ → Plan → Planned → Type 0

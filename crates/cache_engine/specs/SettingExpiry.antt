@@ -1,5 +1,5 @@
 -- What another expiry leaves.
-use Rattle.std.specs.Prelude.{◌≡◌, ◌≢◌, ℕ, Bool, if◌then◌else◌, List, [], Option, Some, None, ℤ, pos, ◌-ℤ◌}
+use Rattle.std.specs.Prelude.{◌≡◌, ◌≢◌, ℕ, if◌then◌else◌, List, [], Option, Some, None, ℤ, pos, ◌-ℤ◌}
 use Rattle.arc_core.specs.declared.items.Expiry.{Expiry}
 use Rattle.arc_core.specs.Item.{is_sticky, with_expiry}
 use Rattle.arc_core.specs.Places.{Places, found, placed, refilled}

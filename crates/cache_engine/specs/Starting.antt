@@ -1,13 +1,17 @@
 -- How keys stand at the start of a step, and what putting an item leaves at its end.
-use Rattle.std.specs.Prelude.{◌≡◌, ◌≢◌, ℕ, Bool, true, false, not, if◌then◌else◌, List, [], ◌∷◌, length, Option, Some, None, Result, Ok, Err}
+use Rattle.std.specs.Prelude.{◌≡◌, ◌&&◌, ℕ, Bool, true, false, not, if◌then◌else◌, List, [], ◌∷◌, length, Option, Some, None}
+use Rattle.arc_core.specs.declared.attributes.Attrs.{Attrs}
 use Rattle.arc_core.specs.declared.items.Expiry.{Expiry}
-use Rattle.arc_core.specs.declared.faults.NoMemory.{NoMemory}
-use Rattle.arc_core.specs.Item.{Item, expiry_of, with_expiry, has_expired, is_sticky}
-use Rattle.arc_core.specs.Places.{Places, found}
+use Rattle.arc_core.specs.CollectionRows.{is_empty}
+use Rattle.arc_core.specs.Item.{Item, Contents, collection, expiry_of, with_expiry, has_expired}
+use Rattle.arc_core.specs.Places.{Places, found, without}
 use Rattle.arc_core.specs.Step.{unexpired, used, put_behind}
 use Rattle.byte_account.specs.declared.put.Put.{Put}
 use Rattle.byte_account.specs.declared.put.Put.TheVariants as put
 use Rattle.cache_engine.specs.Changes.{evicted_for, SetsExpiry}
+use Rattle.coll_items.specs.Changing.{inserted, taken_out}
+use Rattle.coll_items.specs.declared.changes.Insertion.{Insertion}
+use Rattle.coll_items.specs.declared.changes.Removal.{Removal}
 use Rattle.cache_engine.specs.declared.key_state.KeyState.{KeyState}
 use Rattle.cache_engine.specs.declared.key_state.KeyState.TheVariants as key_state
 
@@ -50,3 +54,26 @@ pub record HasExpiryInStep (latest : ℕ) (key : List ℕ) (expiry : Expiry) (ol
 abbrev pub SetsExpiryInStep : ℕ → List ℕ → Expiry → Places Item → Places Item → Put → Type 0
 SetsExpiryInStep latest key expiry old new put.Done = HasExpiryInStep latest key expiry old new
 SetsExpiryInStep latest key expiry old new answer = SetsExpiry key expiry old new answer
+
+-- An item is held under the key that has not expired.
+pub record IsLiveUnder (latest : ℕ) (key : List ℕ) (places : Places Item) : Type 0 where
+  pub item : Item
+  pub held : found key places ≡ Some item
+  pub lives : has_expired latest (expiry_of item) ≡ false
+
+-- What putting an element into a collection leaves in a step that names its key alone, by its answer.
+abbrev pub InsertsInStep : ℕ → List ℕ → Insertion → Places Item → Places Item → Put → Type 0
+InsertsInStep latest key element old new answer =
+    (attrs : Attrs) (contents : Contents) → found key old ≡ Some (collection attrs contents)
+    → PutsInStep latest key (collection attrs (inserted element contents)) old new answer
+
+-- What is left in such a step of a collection under the key: it is gone, or it holds the others.
+abbrev pub LeavesInStep : ℕ → List ℕ → Item → Places Item → Places Item → (dropped : Bool) → Type 0
+LeavesInStep latest key left old new true = new ≡ without key old
+LeavesInStep latest key left old new false = PutsInStep latest key left old new put.Done
+
+-- What taking elements out of a collection leaves in such a step. It goes where it is empty then and is not to stay so.
+abbrev pub RemovesInStep : ℕ → List ℕ → Removal → (drop_empty : Bool) → Places Item → Places Item → (dropped : Bool) → Type 0
+RemovesInStep latest key removal drop_empty old new dropped =
+    (attrs : Attrs) (contents : Contents) → found key old ≡ Some (collection attrs contents)
+    → (dropped ≡ (drop_empty && is_empty (taken_out removal contents))) × LeavesInStep latest key (collection attrs (taken_out removal contents)) old new dropped

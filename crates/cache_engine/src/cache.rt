@@ -1,13 +1,14 @@
 //! The cache: the machine's state in memory.
 ghost use Rattle.std.specs.Prelude.{◌≡◌, ◌≤◌, ◌<◌, ◌^◌, max, ℤ, length, IfOk};
+ghost use Rattle.arc_core.specs.declared.replies.Reply.TheVariants as reply;
 ghost use Rattle.arc_core.specs.PlainRequest as act;
 ghost use Rattle.arc_core.specs.Places.{count_of, found};
 ghost use Rattle.arc_core.specs.CacheState.{ArePlaced, opening_state, accounted, accounted_sticky, IsState};
 ghost use Rattle.arc_core.specs.Plan.{Plan, put};
 ghost use Rattle.arc_core.specs.ReplyText.{reply_text};
-ghost use Rattle.kv_items.specs.PlainItem.{plain_item};
 ghost use Rattle.cache_engine.specs.Planning.{Plans, IsShort};
 ghost use Rattle.cache_engine.specs.Starting.{key_state_of};
+ghost use Rattle.cache_engine.specs.Stored.{item_of};
 ghost use Rattle.cache_engine.specs.Acting.{Acts, Finishes, Answers};
 
 use crate::expiring::expiry_at;
@@ -16,12 +17,16 @@ use crate::key_state::{KeyState, key_state_of, live, put_and_use, set_expiry_and
 use crate::plans::{Planned, plan_count, plan_store};
 use crate::retrieval::{read_and_use, rows_under};
 use crate::settings::Settings;
-use arc_core::{Act, Executor, KeyRef, KeyWords, NoMemory, Reply, Request, StoreVerb, Word};
+use crate::stored::Stored;
+use arc_core::{
+    Act, Executor, KeyRef, KeyWords, NoMemory, Reply, Request, StoreVerb, Word,
+    spelled_requests_keep_limits,
+};
 use byte_account::Put;
-use kv_items::KvItem;
 use std::alloc::Global;
 use std::marker::Model;
 
+mod collections;
 #[cfg(test)]
 mod tests;
 
@@ -94,12 +99,22 @@ impl Cache {
     // Answers with a word, and leaves the item as it is under a key in this state.
     fn answer(&mut self, now: u32, key: &KeyRef<'_>, key_state: KeyState, word: Word) -> Reply
         requires { key_state ≡ key_state_of (max self.old.latest now) (found key.now self.old.places) }
-        ensures answers { Answers self.old now key.now word result self.new }
+        ensures answers { Answers self.old now key.now (reply.Word word) result self.new }
+        ensures text { length (reply_text result) < 2 ^ 64 }
+    {
+        self.reply(now, key, key_state, Reply::Word(word))
+    }
+
+    // Answers so, and leaves the item as it is under a key in this state.
+    fn reply(&mut self, now: u32, key: &KeyRef<'_>, key_state: KeyState, answer: Reply) -> Reply
+        requires key_state { key_state ≡ key_state_of (max self.old.latest now) (found key.now self.old.places) }
+        requires short { length (reply_text answer) < 2 ^ 64 }
+        ensures answers { Answers self.old now key.now answer result self.new }
         ensures text { length (reply_text result) < 2 ^ 64 }
     {
         self.latest = self.latest.max(now);
         use_key(&mut self.items, self.latest, key.bytes(), key_state);
-        Reply::Word(word)
+        answer
     }
 
     // Carries out what was planned for a key in this state.
@@ -119,31 +134,34 @@ impl Cache {
         match planned {
             Planned::NoMemory => Reply::Word(Word::NoMemory),
             Planned::Answer(word) => self.answer(now, key, key_state, word),
-            Planned::Put(item, answer) => self.put(now, key, key_state, item, answer),
+            Planned::Put(item, answer) => {
+                let unique = item.unique;
+                self.put(now, key, key_state, Stored::KeyValue(item), unique, answer)
+            }
         }
     }
 
-    // Puts an item under a key in this state, where there is room.
+    // Puts an item under a key in this state, where there is room, and lets the cas counter be this.
     fn put(
         &mut self,
         now: u32,
         key: &KeyRef<'_>,
         key_state: KeyState,
-        item: KvItem,
+        item: Stored,
+        counter: u64,
         answer: Reply,
     ) -> Reply
         requires key_state { key_state ≡ key_state_of (max self.old.latest now) (found key.now self.old.places) }
         requires placed { ArePlaced self.old.places }
         requires short { length (reply_text answer) < 2 ^ 64 }
-        ensures finishes { Finishes self.old now key.now (put key.now (plain_item item) item.unique answer) result self.new }
+        ensures finishes { Finishes self.old now key.now (put key.now (item_of item) counter answer) result self.new }
         ensures text { length (reply_text result) < 2 ^ 64 }
     {
         let latest = self.latest.max(now);
-        let unique = item.unique;
         match put_and_use(&mut self.items, latest, key, key_state, item) {
             Put::Done => {
                 self.latest = latest;
-                self.counter = unique;
+                self.counter = counter;
                 answer
             }
             Put::NoRoom => {
@@ -281,6 +299,8 @@ impl Executor for Cache {
     ghost state = { λ cache. cache };
 
     fn execute(&mut self, now: u32, request: &Request<'_>) -> Reply {
+        spelled_requests_keep_limits();
+
         match &request.act {
             Act::Store {
                 verb,
@@ -300,6 +320,19 @@ impl Executor for Cache {
             Act::Touch { key, exptime } => self.touch(now, key, *exptime),
             Act::FlushAll => self.flush_all(now),
             Act::Version => self.version(now),
+            Act::Create { kind, key, args } => self.make(now, *kind, key, *args),
+            Act::ListInsert { key, .. }
+            | Act::ListDelete { key, .. }
+            | Act::ListGet { key, .. }
+            | Act::SetInsert { key, .. }
+            | Act::SetDelete { key, .. }
+            | Act::SetExist { key, .. }
+            | Act::SetGet { key, .. }
+            | Act::MapInsert { key, .. }
+            | Act::MapUpdate { key, .. }
+            | Act::MapUpsert { key, .. }
+            | Act::MapDelete { key, .. }
+            | Act::MapGet { key, .. } => self.ask(now, key, &request.act),
         }
     }
 

@@ -5,13 +5,15 @@ ghost use Rattle.arc_core.specs.Item.{size_of, with_expiry};
 ghost use Rattle.arc_core.specs.Places.{empty_places, found, count_of, total_of, sticky_total_of, brought_to_front, without};
 ghost use Rattle.arc_core.specs.CacheState.{ArePlaced};
 ghost use Rattle.cache_engine.specs.Stored.{item_of};
-ghost use Rattle.cache_engine.specs.Changes.{Puts, IsUnder, SetsExpiry};
+ghost use Rattle.cache_engine.specs.Changes.{Puts, IsUnder, SetsExpiry, SuitsUnder, Inserts, FitsUnder, Removes};
 
+use crate::changes::{insert_under, remove_under};
 use crate::puts::put_item;
 use crate::set_expiry::set_expiry;
 use crate::stored::Stored;
 use arc_core::{Expiry, KeyRef, NoMemory};
 use byte_account::{Put, Shelf};
+use coll_items::{Insertion, Removal};
 use std::alloc::Global;
 use std::marker::Model;
 
@@ -114,6 +116,7 @@ impl Items {
     pub fn put(&mut self, key: &KeyRef<'_>, item: Stored) -> Put
         ensures { Puts key.now (item_of item) self.old self.new result }
     {
+        item.keep_the_rules();
         put_item(&mut self.shelf, self.alloc, key, item)
     }
 
@@ -126,5 +129,25 @@ impl Items {
         ensures { SetsExpiry key.now expiry self.old self.new result }
     {
         set_expiry(&mut self.shelf, key.bytes(), expiry)
+    }
+
+    /// Puts an element into the collection under the key, behind as few evictions as make room. All memory is taken before
+    /// anything is evicted.
+    ///
+    /// `NoRoom` comes only where there is no room, and `NoMemory` for want of memory alone; then nothing has changed.
+    pub fn insert(&mut self, key: &KeyRef<'_>, insertion: Insertion) -> Put
+        requires { SuitsUnder key.now insertion self.old }
+        ensures { Inserts key.now insertion self.old self.new result }
+    {
+        insert_under(&mut self.shelf, key.bytes(), insertion)
+    }
+
+    /// Takes elements out of the collection under the key, in place; where it is empty then and `drop_empty` says so, it
+    /// goes too. Tells whether it has gone. Takes no memory.
+    pub fn remove_from(&mut self, key: &KeyRef<'_>, removal: &Removal<'_>, drop_empty: bool) -> bool
+        requires { FitsUnder key.now removal.now self.old }
+        ensures { Removes key.now removal.now drop_empty self.old self.new result }
+    {
+        remove_under(&mut self.shelf, key.bytes(), removal, drop_empty)
     }
 }

@@ -1,20 +1,18 @@
 //! How a key stands at the start of a step, and what is done to its place then and at the end.
-ghost use Rattle.std.specs.Prelude.{◌≡◌, ◌∷◌, [], option_map};
+ghost use Rattle.std.specs.Prelude.{◌≡◌, ◌∷◌, []};
 ghost use Rattle.arc_core.specs.Places.{found};
 ghost use Rattle.arc_core.specs.CacheState.{ArePlaced};
 ghost use Rattle.arc_core.specs.Step.{unexpired, used};
-ghost use Rattle.cache_engine.specs.Stored.{item_of};
-ghost use Rattle.cache_engine.specs.Planning.{held_item};
-ghost use Rattle.cache_engine.specs.Starting.{key_state_of, live_of, moves, PutsInStep, SetsExpiryInStep};
-ghost use Rattle.cache_engine.specs.Changes.{IsUnder};
-ghost use Rattle.kv_items.specs.PlainItem.{plain_item};
+ghost use Rattle.cache_engine.specs.Stored.{held_item, item_of};
+ghost use Rattle.cache_engine.specs.Starting.{key_state_of, live_of, moves, IsLiveUnder, PutsInStep, SetsExpiryInStep, InsertsInStep, RemovesInStep};
+ghost use Rattle.cache_engine.specs.Changes.{FitsUnder, IsUnder, SuitsUnder};
 
 use crate::expiring::has_expired;
 use crate::items::Items;
 use crate::stored::Stored;
 use arc_core::{Expiry, KeyRef};
 use byte_account::Put;
-use kv_items::KvItem;
+use coll_items::{Insertion, Removal};
 
 /// How a key stands at the start of a step.
 #[derive(Clone, Copy, Debug, PartialEq, Eq)]
@@ -29,7 +27,7 @@ pub enum KeyState {
 
 /// How the key of this item stands at the latest second.
 pub fn key_state_of(latest: u32, held: Option<&Stored>) -> KeyState
-    ensures { result ≡ key_state_of latest (option_map (λ stored. item_of stored.now) held.entry) }
+    ensures { result ≡ key_state_of latest (held_item held.entry) }
 {
     match held {
         None => KeyState::Absent,
@@ -39,17 +37,14 @@ pub fn key_state_of(latest: u32, held: Option<&Stored>) -> KeyState
 }
 
 /// The item, where it has not expired at the latest second.
-pub fn live<'a>(latest: u32, held: Option<&'a Stored>) -> Option<&'a KvItem>
-    ensures { held_item result ≡ live_of latest (option_map (λ stored. item_of stored.now) held.entry) }
+pub fn live<'a>(latest: u32, held: Option<&'a Stored>) -> Option<&'a Stored>
+    ensures { held_item result ≡ live_of latest (held_item held.entry) }
 {
-    match held? {
-        Stored::KeyValue(item) => {
-            if has_expired(latest, item.expiry) {
-                None
-            } else {
-                Some(item)
-            }
-        }
+    let item = held?;
+    if has_expired(latest, item.expiry()) {
+        None
+    } else {
+        Some(item)
     }
 }
 
@@ -70,14 +65,14 @@ pub fn put_and_use(
     latest: u32,
     key: &KeyRef<'_>,
     key_state: KeyState,
-    item: KvItem,
+    item: Stored,
 ) -> Put
     requires key_state { key_state ≡ key_state_of latest (found key.now items.old) }
     requires placed { ArePlaced items.old }
-    ensures { PutsInStep latest key.now (plain_item item) items.old items.new result }
+    ensures { PutsInStep latest key.now (item_of item) items.old items.new result }
 {
-    let moves = moves_to_front(latest, key_state, item.expiry);
-    let put = items.put(key, Stored::KeyValue(item));
+    let moves = moves_to_front(latest, key_state, item.expiry());
+    let put = items.put(key, item);
     match put {
         Put::Done if moves => items.mark_used(key.bytes()),
         Put::NoRoom => drop_expired(items, latest, key.bytes(), key_state),
@@ -103,6 +98,45 @@ pub fn set_expiry_and_use(items: &mut Items, latest: u32, key: &KeyRef<'_>, expi
         }
         answer => answer,
     }
+}
+
+/// Puts an element into the collection under the key, which has not expired, behind as few evictions as make room: a step
+/// that names the key alone. Where there is no room, or memory was refused, nothing has changed.
+pub fn insert_and_use(items: &mut Items, latest: u32, key: &KeyRef<'_>, insertion: Insertion) -> Put
+    requires live { IsLiveUnder latest key.now items.old }
+    requires suits { SuitsUnder key.now insertion items.old }
+    requires placed { ArePlaced items.old }
+    ensures { InsertsInStep latest key.now insertion items.old items.new result }
+{
+    match items.insert(key, insertion) {
+        Put::Done => {
+            items.mark_used(key.bytes());
+            Put::Done
+        }
+        Put::NoRoom => Put::NoRoom,
+        Put::NoMemory => Put::NoMemory,
+    }
+}
+
+/// Takes elements out of the collection under the key, which has not expired; where it is empty then and `drop_empty` says
+/// so, it goes too: a step that names the key alone. Tells whether it has gone.
+pub fn remove_and_use(
+    items: &mut Items,
+    latest: u32,
+    key: &KeyRef<'_>,
+    removal: &Removal<'_>,
+    drop_empty: bool,
+) -> bool
+    requires live { IsLiveUnder latest key.now items.old }
+    requires fits { FitsUnder key.now removal.now items.old }
+    requires placed { ArePlaced items.old }
+    ensures { RemovesInStep latest key.now removal.now drop_empty items.old items.new result }
+{
+    let dropped = items.remove_from(key, removal, drop_empty);
+    if !dropped {
+        items.mark_used(key.bytes());
+    }
+    dropped
 }
 
 // Whether an item that was put under a key in this state moves to the front of the shelf. (In a new place it

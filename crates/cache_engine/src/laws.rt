@@ -5,7 +5,7 @@ ghost use Rattle.arc_core.specs.declared.replies.Reply.TheVariants as reply;
 ghost use Rattle.arc_core.specs.declared.replies.Word.TheVariants as word;
 ghost use Rattle.arc_core.specs.Item.{Item};
 ghost use Rattle.arc_core.specs.PlainRequest.{PlainRequest};
-ghost use Rattle.arc_core.specs.Grammar.{CanBeSpelled};
+ghost use Rattle.arc_core.specs.CollectionLines.{CanBeSpelled};
 ghost use Rattle.arc_core.specs.CacheState.{CacheState, IsState};
 ghost use Rattle.arc_core.specs.Step.{extra_of, carried_out, named_keys, started, step};
 ghost use Rattle.arc_core.specs.Plan.{answer_only, put};

@@ -4,9 +4,11 @@ ghost use Rattle.arc_core.specs.Item.{Item, key_value};
 ghost use Rattle.arc_core.specs.Places.{Places};
 ghost use Rattle.arc_core.specs.Step.{next_unique, plan_of_store, plan_of_count};
 ghost use Rattle.kv_items.specs.PlainItem.{plain_item};
-ghost use Rattle.cache_engine.specs.Planning.{Plans, IsShort, IsJoinedPlan, state_at, held_item};
+ghost use Rattle.cache_engine.specs.Planning.{Plans, IsShort, IsJoinedPlan, state_at};
+ghost use Rattle.cache_engine.specs.Stored.{held_item};
 
 use crate::expiring::expiry_at;
+use crate::stored::Stored;
 use arc_core::{Expiry, NoMemory, Reply, StoreVerb, Word};
 use kv_items::{JoinFault, KvItem, counted};
 use std::alloc::Global;
@@ -38,13 +40,18 @@ pub fn plan_store(
     flags: u32,
     exptime: i64,
     value: &[u8],
-    held: Option<&KvItem>,
+    held: Option<&Stored>,
 ) -> Planned
     requires { length value.now ≤ 1048576 }
     ensures plans { (key : List ℕ) (places : Places Item) →
         Plans key (plan_of_store (state_at latest counter places) verb key flags exptime value.now (held_item held.entry)) result }
     ensures short { IsShort result }
 {
+    let held = match held {
+        Some(Stored::Collection(_)) => return Planned::Answer(Word::TypeMismatch),
+        Some(Stored::KeyValue(item)) => Some(item),
+        None => None,
+    };
     let unique = next_unique(counter);
     match (verb, held) {
         (StoreVerb::Set, _) | (StoreVerb::Add, None) | (StoreVerb::Replace, Some(_)) => {}
@@ -87,14 +94,15 @@ pub fn plan_count(
     up: bool,
     delta: u64,
     initial: Option<(u32, i64, u64)>,
-    held: Option<&KvItem>,
+    held: Option<&Stored>,
 ) -> Planned
     ensures plans { (key : List ℕ) (places : Places Item) →
         Plans key (plan_of_count (state_at latest counter places) up key delta initial (held_item held.entry)) result }
     ensures short { IsShort result }
 {
     let (flags, expiry, number) = match (held, initial) {
-        (Some(item), _) => match counted(item.value.bytes(), up, delta) {
+        (Some(Stored::Collection(_)), _) => return Planned::Answer(Word::TypeMismatch),
+        (Some(Stored::KeyValue(item)), _) => match counted(item.value.bytes(), up, delta) {
             Ok(number) => (item.flags, item.expiry, number),
             Err(_) => return Planned::Answer(Word::NotNumeric),
         },

@@ -9,6 +9,7 @@ ghost use Rattle.cache_engine.specs.Retrieving.{live_rows, some_late, AreLive, R
 
 use crate::items::Items;
 use crate::key_state::{drop_expired, key_state_of, live};
+use crate::stored::Stored;
 use arc_core::{Key, KeyRef, KeyWords, NoMemory, Seq, ValueRow};
 use kv_items::KvItem;
 use std::alloc::Global;
@@ -57,6 +58,9 @@ fn read_key(
     let held = items.look(key.bytes());
     let Some(item) = live(latest, held) else {
         return Ok(held.is_some());
+    };
+    let Stored::KeyValue(item) = item else {
+        return Ok(false);
     };
     let row = row_of(alloc, key, item, unique)?;
     match rows.push(row) {

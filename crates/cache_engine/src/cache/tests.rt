@@ -1,5 +1,6 @@
 //! Scripts of requests, worked by hand from the rules of the machine. Beside each second and request stands its reply.
 
+mod collections;
 mod evictions;
 
 use super::Cache;

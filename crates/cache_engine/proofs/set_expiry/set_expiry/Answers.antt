@@ -1,15 +1,16 @@
-use Rattle.std.proofs.Common.{w64, sym, ap, subst, ◌≤◌, ◌∙◌, arith}
+use Rattle.std.proofs.Common.{w64, sym, ap, ◌∙◌, arith}
 use Rattle.std.proofs.lemmas.Int.{to_z-of_z}
 use Rattle.std.specs.Option.{option_copied}
-use Rattle.cache_engine.specs.SettingExpiry.{Crosses}
-use Rattle.cache_engine.proofs.ExpiryLaws.{not_held, size_small, does_cross, does_not_cross, set_there}
+use Rattle.cache_engine.proofs.ExpiryLaws.{not_held, held_small, does_cross, does_not_cross, set_there}
 use Rattle.cache_engine.proofs.set_expiry.set_expiry.Goals as goal
 
 pub returns-in_default : goal.returns-in_default
 returns-in_default c = absurd (not_held c.args.key.now c.args.expiry c.args.shelf.now c.requires.holds c.requires.held (sym c.look.ensures ∙ ap option_copied c.in_default.is))
 
 pub crossing-requires : goal.crossing-requires
-crossing-requires c = let small = size_small c.args.key.now c.in-Some.item.now c.requires.key in omega (arith, small, c.weight-size.ensures)
+crossing-requires c =
+    let small = held_small c.args.key.now c.args.shelf.now c.in-Some.item.now c.requires.key c.requires.holds (sym c.look.ensures ∙ ap option_copied c.in-Some.is) in
+    omega (arith, small, c.weight-size.ensures)
 
 pub set_expiry_across-requires-clause-crosses : goal.set_expiry_across-requires-clause-crosses
 set_expiry_across-requires-clause-crosses c =

@@ -1,4 +1,4 @@
-use Rattle.std.proofs.Common.{IsSome, w64, not, refl, subst, sym, ap, ◌∙◌}
+use Rattle.std.proofs.Common.{IsSome, w64, not, refl, subst, sym, ◌∙◌}
 use Rattle.std.proofs.lemmas.Int.{to_z-of_z}
 use Rattle.byte_account.specs.Accounting.{HasShareFor}
 use Rattle.byte_account.specs.ShelfWords.{on_side, weight_at}

@@ -1,7 +1,8 @@
 use Rattle.std.proofs.Common.{max, sym, ap, ◌∙◌, subst}
 use Rattle.arc_core.specs.Places.{found}
 use Rattle.arc_core.specs.Step.{plan_of_count}
-use Rattle.cache_engine.specs.Planning.{Plans, state_at, held_item}
+use Rattle.cache_engine.specs.Planning.{Plans, state_at}
+use Rattle.cache_engine.specs.Stored.{held_item}
 use Rattle.cache_engine.specs.Starting.{live_of}
 use Rattle.cache_engine.proofs.Actions.{counted}
 use Rattle.cache_engine.proofs.cache.Cache.count.Goals as goal

@@ -2,7 +2,8 @@ use Rattle.std.proofs.Common.{max, w64, sym, ap, ◌∙◌, subst}
 use Rattle.std.proofs.lemmas.Int.{to_z-of_z}
 use Rattle.arc_core.specs.Places.{found}
 use Rattle.arc_core.specs.Step.{plan_of_store}
-use Rattle.cache_engine.specs.Planning.{Plans, state_at, held_item}
+use Rattle.cache_engine.specs.Planning.{Plans, state_at}
+use Rattle.cache_engine.specs.Stored.{held_item}
 use Rattle.cache_engine.specs.Starting.{live_of}
 use Rattle.cache_engine.proofs.Actions.{stored}
 use Rattle.cache_engine.proofs.cache.Cache.store.Goals as goal
