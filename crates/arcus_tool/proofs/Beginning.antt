@@ -1,7 +1,7 @@
 -- Where a session begins, and one that ends there.
 use Rattle.std.proofs.Common.{◌≡◌, ℕ, List, [], Option, Some, None, refl, sym, ap, inl, arith, subst, ◌∙◌}
-use Rattle.arc_core.specs.Outside.{Incoming, Outgoing, first_then, sent_more}
-use Rattle.arc_core.specs.Grammar.{line_needs}
+use Rattle.arc_core.specs.Outside.{Outgoing, first_then, sent_more}
+use Rattle.arc_core.specs.CollectionLines.{coll_line_needs}
 use Rattle.arc_core.specs.CacheState.{CacheState, IsState}
 use Rattle.frame_reader.specs.Progress.{Progress, StandsFor}
 use Rattle.arcus_tool.specs.Handling.{Stand, stand, Went}
@@ -25,7 +25,7 @@ went_nowhere at = record {
 }
 
 -- no byte was taken yet, and nothing waits
-pub ran_nowhere : (opening : CacheState) (before : Outside) (waiting : List ℕ) (progress : Progress) → waiting ≡ [] → StandsFor line_needs progress []
+pub ran_nowhere : (opening : CacheState) (before : Outside) (waiting : List ℕ) (progress : Progress) → waiting ≡ [] → StandsFor coll_line_needs progress []
     → RanSoFar opening before (stand opening before.coming (sent_more before.out waiting)) before.incoming progress []
 ran_nowhere opening before waiting progress none stands =
     let here : (o : Outgoing) → before.out ≡ o → RanSoFar opening before (stand opening before.coming o) before.incoming progress [] = λ o same.

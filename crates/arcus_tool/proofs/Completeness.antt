@@ -7,7 +7,7 @@ use Rattle.std.proofs.lemmas.List.Elements.{All-nil}
 use Rattle.arc_core.specs.declared.outside.Need.{Need}
 use Rattle.arc_core.specs.CacheState.{CacheState}
 use Rattle.arc_core.specs.Framing.{Whole, IsSpan, IsRest, BeginsWith, line, line_with_block, bad_chunk, too_large, block_no_memory, line_too_long}
-use Rattle.arc_core.specs.Grammar.{line_needs}
+use Rattle.arc_core.specs.CollectionLines.{coll_line_needs}
 use Rattle.arc_core.specs.Outside.{first_then}
 use Rattle.arc_core.specs.SessionText.{IsQuitUnit}
 use Rattle.frame_reader.specs.Cutting.{StandsInFor, Agree, GoesOnTo}
@@ -99,7 +99,7 @@ none_before [] unit more only = tt
 none_before (first ∷ []) unit more only = (only.0, tt)
 none_before (first ∷ second ∷ front) unit more only = (only.0, none_before (second ∷ front) unit more only.1)
 
-no_bytes : IsRest line_needs []
+no_bytes : IsRest coll_line_needs []
 no_bytes = inl (omega arith, All-nil (λ b. b ≢ 10))
 
 -- what was taken of told input, and what is left of it
@@ -125,15 +125,15 @@ UnitsStay = (needs : List ℕ → Need) (bytes : List ℕ) (units : List Whole) 
 
 module _ (agree_law : BeginningsAgree) (rest_law : RestBeginsWithNoUnit) (stay_law : UnitsStay) where
   -- an unfinished unit begins with no units
-  begins_with_none : (rest : List ℕ) (units : List Whole) (tail : List ℕ) → IsRest line_needs rest → BeginsWith line_needs rest units tail → (units ≡ []) × (rest ≡ tail)
+  begins_with_none : (rest : List ℕ) (units : List Whole) (tail : List ℕ) → IsRest coll_line_needs rest → BeginsWith coll_line_needs rest units tail → (units ≡ []) × (rest ≡ tail)
   begins_with_none rest [] tail is begins = (refl, begins)
-  begins_with_none rest (unit ∷ units) tail is begins = absurd (rest_law line_needs rest begins.0 begins.1 unit is begins.2 begins.3)
+  begins_with_none rest (unit ∷ units) tail is begins = absurd (rest_law coll_line_needs rest begins.0 begins.1 unit is begins.2 begins.3)
 
   -- units to an unfinished tail, that is not empty, of whole input: one of them is `quit`
-  no_cut : (input : List ℕ) (units : List Whole) (tail : List ℕ) → BeginsWith line_needs input units tail → NoneFinal units → IsRest line_needs tail → 0 < length tail
+  no_cut : (input : List ℕ) (units : List Whole) (tail : List ℕ) → BeginsWith coll_line_needs input units tail → NoneFinal units → IsRest coll_line_needs tail → 0 < length tail
       → IsWholeInput input → ⊥
   no_cut input units tail spans none rest some whole =
-      elim (agree_law line_needs input units tail whole.units whole.tail spans whole.spans) [
+      elim (agree_law coll_line_needs input units tail whole.units whole.tail spans whole.spans) [
         | inl on ↦
             let behind = begins_with_none tail on.more whole.tail rest on.follows in
             let same : whole.units ≡ on.same = on.is ∙ ap (λ m. on.same ++ m) behind.0 ∙ append-nil on.same in
@@ -148,7 +148,7 @@ module _ (agree_law : BeginningsAgree) (rest_law : RestBeginsWithNoUnit) (stay_l
             none_along IsQuitUnit quit_agrees whole.units on.same on.agree (none_front IsQuitUnit on.same on.more (subst (NoneIs IsQuitUnit) on.is (no_quit units none))) in
             elim whole.ends [
               | inl empty ↦
-                  let follows : BeginsWith line_needs [] on.more tail = subst (λ t. BeginsWith line_needs t on.more tail) empty on.follows in
+                  let follows : BeginsWith coll_line_needs [] on.more tail = subst (λ t. BeginsWith coll_line_needs t on.more tail) empty on.follows in
                   let e : length tail ≡ 0 = ap length (sym (begins_with_none [] on.more tail no_bytes follows).1) in
                   omega arith
               | inr quits ↦ no_end IsQuitUnit whole.units quits_not quits
@@ -156,10 +156,10 @@ module _ (agree_law : BeginningsAgree) (rest_law : RestBeginsWithNoUnit) (stay_l
       ]
 
   -- units of which the last is too long a line, and none before it is final, are none of whole input
-  no_long_line : (input : List ℕ) (units : List Whole) (tail : List ℕ) → BeginsWith line_needs input units tail → OnlyLastFinal units → EndsWith IsTooLong units
+  no_long_line : (input : List ℕ) (units : List Whole) (tail : List ℕ) → BeginsWith coll_line_needs input units tail → OnlyLastFinal units → EndsWith IsTooLong units
       → IsWholeInput input → ⊥
   no_long_line input units tail spans only ends whole =
-      elim (agree_law line_needs input units tail whole.units whole.tail spans whole.spans) [
+      elim (agree_law coll_line_needs input units tail whole.units whole.tail spans whole.spans) [
         | inl on ↦
             let none : NoneIs IsTooLong on.same = none_front IsTooLong on.same on.more (subst (NoneIs IsTooLong) on.is whole.none_too_long) in
             no_end IsTooLong units (none_along IsTooLong long_agrees units on.same on.agree none) ends
@@ -172,11 +172,11 @@ module _ (agree_law : BeginningsAgree) (rest_law : RestBeginsWithNoUnit) (stay_l
       ]
     where
       behind_whole : {input : List ℕ} (whole : IsWholeInput input) (same more : List Whole) (tail : List ℕ) → AllZip Agree whole.units same → OnlyLastFinal (same ++ more)
-          → BeginsWith line_needs whole.tail more tail → more ≡ []
+          → BeginsWith coll_line_needs whole.tail more tail → more ≡ []
       behind_whole whole same [] tail agree only follows = refl
       behind_whole whole same (unit ∷ more) tail agree only follows =
           elim whole.ends [
-            | inl empty ↦ (begins_with_none [] (unit ∷ more) tail no_bytes (subst (λ t. BeginsWith line_needs t (unit ∷ more) tail) empty follows)).0
+            | inl empty ↦ (begins_with_none [] (unit ∷ more) tail no_bytes (subst (λ t. BeginsWith coll_line_needs t (unit ∷ more) tail) empty follows)).0
             | inr quits ↦
                 absurd (no_end IsQuitUnit whole.units (none_along IsQuitUnit quit_agrees whole.units same agree (no_quit same (none_before same unit more only))) quits)
           ]
@@ -197,11 +197,11 @@ module _ (agree_law : BeginningsAgree) (rest_law : RestBeginsWithNoUnit) (stay_l
       let ends : EndsCut rest before after session.taken session.units session.tail session.text = session.ends in
       let ended : part.0 ≡ [] = subst (λ l. IfSome l (λ bytes. bytes ≡ [])) part.1 ends.read.ended in
       let all : input ≡ session.taken = part.2 ∙ ap (λ m. session.taken ++ m) ended ∙ append-nil session.taken in
-      let spans : BeginsWith line_needs input session.units session.tail = subst (λ b. BeginsWith line_needs b session.units session.tail) (sym all) session.spans in
+      let spans : BeginsWith coll_line_needs input session.units session.tail = subst (λ b. BeginsWith coll_line_needs b session.units session.tail) (sym all) session.spans in
       absurd (no_cut input session.units session.tail spans ends.handled.none_final ends.handled.unfinished (omega (arith, ends.came, ends.within_a_unit)) whole)
   is_complete opening before after status.LineTooLong session = λ input told whole short reads writes.
       let part = taken_of session.taken input after.incoming.left (sym told ∙ session.took) in
       let ends : EndsAtLongLine before after session.taken session.units session.tail session.text = session.ends in
-      let spans : BeginsWith line_needs input session.units (session.tail ++ part.0) =
-      subst (λ b. BeginsWith line_needs b session.units (session.tail ++ part.0)) (sym part.2) (stay_law line_needs session.taken session.units session.tail part.0 session.spans) in
+      let spans : BeginsWith coll_line_needs input session.units (session.tail ++ part.0) =
+      subst (λ b. BeginsWith coll_line_needs b session.units (session.tail ++ part.0)) (sym part.2) (stay_law coll_line_needs session.taken session.units session.tail part.0 session.spans) in
       absurd (no_long_line input session.units (session.tail ++ part.0) spans session.last ends.too_long whole)

@@ -1,25 +1,24 @@
 -- How a session goes on, and how it is over.
-use Rattle.std.proofs.Common.{◌≡◌, ◌≤◌, ◌<◌, ◌^◌, ℕ, List, [], ◌∷◌, ◌++◌, length, Option, Some, None, Ok, Err, refl, sym, ap, ◌∙◌, subst, append_assoc, arith, inl, inr}
+use Rattle.std.proofs.Common.{◌≡◌, ◌≤◌, ◌<◌, ◌^◌, ℕ, List, [], ◌∷◌, ◌++◌, length, Option, Some, None, Err, refl, sym, ap, ◌∙◌, subst, append_assoc, arith, inl, inr}
 use Rattle.std.specs.Prelude.{MatchOption, IfSome}
 use Rattle.std.proofs.lemmas.List.{append-nil}
 use Rattle.arc_core.specs.declared.outside.Need.{Need}
 use Rattle.arc_core.specs.Outside.{Rose, Incoming, Outgoing, first_then, sent_more, CameToEnd, FailedToPull}
 use Rattle.arc_core.specs.Framing.{Whole, IsSpan, IsRest}
-use Rattle.arc_core.specs.Grammar.{line_needs}
+use Rattle.arc_core.specs.CollectionLines.{coll_line_needs}
 use Rattle.arc_core.specs.CacheState.{CacheState}
 use Rattle.arc_core.specs.SessionText.{IsQuitUnit}
 use Rattle.frame_reader.specs.Progress.{Progress, StandsFor, ready_unit}
-use Rattle.arcus_tool.specs.Output.{HasCause}
 use Rattle.arcus_tool.specs.Waiting.{Grew, Flushes}
-use Rattle.arcus_tool.specs.Handling.{Stand, stand, Went, GoesOn, StopsAt, BrokeOff, NoneFinal, OnlyLastFinal, IsTooLong}
+use Rattle.arcus_tool.specs.Handling.{Stand, stand, Went, GoesOn, StopsAt, BrokeOff, OnlyLastFinal, IsTooLong}
 use Rattle.arcus_tool.specs.declared.stops.Stop.{Stop}
 use Rattle.arcus_tool.specs.declared.stops.Stop.TheVariants as stop
 use Rattle.arcus_tool.specs.declared.status.Status.{Status}
 use Rattle.arcus_tool.specs.declared.status.Status.TheVariants as status
-use Rattle.arcus_tool.specs.Session.{Outside, outside, IsSession, RanSoFar, CameTo, start_of, status_at_end, Ends, ReadToEnd, SentWhole, HandledAll, CountsOnly, SameReads, SameWrites, SameRefusals, IsOver, Finishes, status_of}
+use Rattle.arcus_tool.specs.Session.{Outside, outside, RanSoFar, CameTo, start_of, status_at_end, Ends, ReadToEnd, SentWhole, HandledAll, CountsOnly, SameReads, SameWrites, SameRefusals, IsOver, Finishes, status_of}
 use Rattle.arcus_tool.proofs.Histories.{spans_more, only_of_none}
 use Rattle.arcus_tool.proofs.Going.{went_by}
-use Rattle.arcus_tool.proofs.Flushing.{broke_waiting, broke_at_flush}
+use Rattle.arcus_tool.proofs.Flushing.{broke_at_flush}
 
 -- one piece and then another
 first_on : (a b : List ℕ) (rest : Option (List ℕ)) → first_then a (first_then b rest) ≡ first_then (a ++ b) rest
@@ -31,7 +30,7 @@ went_more : (from to : Stand) (taken : List ℕ) (units : List Whole) (tail more
 went_more from to taken units tail more went = record {
   entries = went.entries;
   text = went.text;
-  spans = spans_more line_needs taken units tail more went.spans;
+  spans = spans_more coll_line_needs taken units tail more went.spans;
   tells = went.tells;
   executed = went.executed;
   out = went.out;
@@ -157,7 +156,7 @@ module _ (opening : CacheState) (before : Outside) (state : CacheState) (coming 
         (record { too_long = stops.3; short_tail = omega (arith, stops.5, within); few = few; sent = sent })
         (reads, ap (λ o. o.faults) sent, ap (λ o. o.refusals) sent)) finishes
 
-    module _ (progress : Progress) (goes : GoesOn (start_of opening before) (stand state coming (sent_more out waiting)) taken progress []) (rest : (bytes : List ℕ) → StandsFor line_needs progress bytes → IsRest line_needs bytes) where
+    module _ (progress : Progress) (goes : GoesOn (start_of opening before) (stand state coming (sent_more out waiting)) taken progress []) (rest : (bytes : List ℕ) → StandsFor coll_line_needs progress bytes → IsRest coll_line_needs bytes) where
       went_here : Went (start_of opening before) (stand state coming (sent_more out waiting)) taken goes.0 goes.1
       went_here = went_by (start_of opening before) (stand state coming (sent_more out waiting)) taken goes.0 (goes.1 ++ []) goes.1 (append-nil goes.1) goes.2
 
@@ -192,7 +191,7 @@ counts_at before after (byte ∷ tail) reads writes refusals = (reads, writes, r
 
 module _ (opening : CacheState) (before : Outside) (state : CacheState) (coming : Option (List ℕ)) (out out' : Outgoing) (waiting : List ℕ) (incoming incoming' : Incoming) (progress : Progress) (taken : List ℕ)
     (ran : RanSoFar opening before (stand state coming (sent_more out waiting)) incoming progress taken) (short : length taken < 2 ^ 40) (gone : out' ≡ sent_more out waiting)
-    (rest : (bytes : List ℕ) → StandsFor line_needs progress bytes → IsRest line_needs bytes) where
+    (rest : (bytes : List ℕ) → StandsFor coll_line_needs progress bytes → IsRest coll_line_needs bytes) where
   went_upto : Went (start_of opening before) (stand state coming (sent_more out waiting)) taken ran.goes.0 ran.goes.1
   went_upto = went_by (start_of opening before) (stand state coming (sent_more out waiting)) taken ran.goes.0 (ran.goes.1 ++ []) ran.goes.1 (append-nil ran.goes.1) ran.goes.2
 
@@ -241,6 +240,6 @@ module _ (opening : CacheState) (before : Outside) (state : CacheState) (coming 
 -- a reader that has no unit ready holds an unfinished one
 pub holds_rest : (progress : Progress) → ready_unit progress ≡ None
     → ((needs : List ℕ → Need) (progress : Progress) (bytes : List ℕ) → StandsFor needs progress bytes → MatchOption (ready_unit progress) (IsRest needs bytes) (λ unit. IsSpan needs bytes unit))
-    → (bytes : List ℕ) → StandsFor line_needs progress bytes → IsRest line_needs bytes
+    → (bytes : List ℕ) → StandsFor coll_line_needs progress bytes → IsRest coll_line_needs bytes
 holds_rest progress none law bytes stands =
-    subst (λ unit. MatchOption unit (IsRest line_needs bytes) (λ u. IsSpan line_needs bytes u)) none (law line_needs progress bytes stands)
+    subst (λ unit. MatchOption unit (IsRest coll_line_needs bytes) (λ u. IsSpan coll_line_needs bytes u)) none (law coll_line_needs progress bytes stands)

@@ -1,7 +1,7 @@
 -- What a flush leaves of a session whose texts waited.
-use Rattle.std.proofs.Common.{◌≡◌, ℕ, List, [], ◌++◌, Option, Err, refl, sym, ap, ◌∙◌, subst}
+use Rattle.std.proofs.Common.{◌≡◌, ℕ, List, [], Option, Err, sym, ap, ◌∙◌, subst}
 use Rattle.std.proofs.lemmas.List.{append-nil}
-use Rattle.arc_core.specs.Outside.{Outgoing, then_sent, sent_more}
+use Rattle.arc_core.specs.Outside.{Outgoing, sent_more}
 use Rattle.arc_core.specs.CacheState.{CacheState}
 use Rattle.arc_core.specs.Framing.{Whole}
 use Rattle.arcus_tool.specs.Waiting.{Grew, Flushes}

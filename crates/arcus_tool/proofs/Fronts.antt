@@ -1,8 +1,9 @@
 -- Units at the front of a piece, read where they lie.
-use Rattle.std.proofs.Common.{◌≡◌, ◌≤◌, ◌<◌, ℕ, List, [], take, length, Option, Some, None, Result, Ok, refl, sym, ◌∙◌, ◌+◌, subst, arith, false}
+use Rattle.std.proofs.Common.{◌≡◌, ◌≤◌, ℕ, List, [], take, Option, Some, None, Result, Ok, refl, sym, ◌∙◌, subst, arith, false}
 use Rattle.arc_core.specs.declared.outside.Need.TheVariants as need
-use Rattle.arc_core.specs.declared.commands.Head.{Head}
-use Rattle.arc_core.specs.Grammar.{IsHead, Meets, line_needs, line_is_silent, is_silent, is_quit, need_of}
+use Rattle.arc_core.specs.declared.coll_commands.CollHead.{CollHead}
+use Rattle.arc_core.specs.CollectionLines.{IsCollHead, coll_line_needs, coll_line_is_silent, coll_is_quit, coll_answer, coll_need_of}
+use Rattle.arc_core.specs.Grammar.{Meets, is_silent}
 use Rattle.arc_core.specs.Framing.{IsSpan}
 use Rattle.arc_core.specs.Framing as whole
 use Rattle.frame_reader.specs.Fronts.{IsFrontLine, IsFrontBlock}
@@ -17,11 +18,11 @@ front_some piece from to told count is front = subst (λ r. TakesFront piece fro
 pub front_none : (piece : List ℕ) (from to : Stand) (told : Option ℕ) → told ≡ None → TakesFront piece from to (Ok told) → to ≡ from
 front_none piece from to told is front = subst (λ r. TakesFront piece from to (Ok r)) is front
 
-module _ (from to : Stand) (piece text : List ℕ) (count : ℕ) (head : Head) (front : IsFrontLine piece text count) (spelled : IsHead text head)
-    (needs : line_needs text ≡ need_of head.command) (silent : line_is_silent text ≡ is_silent head.answer) (goes : is_quit head.command ≡ false)
-    (only : (other : Head) → IsHead text other → head ≡ other) (result : Result Unit Stop) where
+module _ (from to : Stand) (piece text : List ℕ) (count : ℕ) (head : CollHead) (front : IsFrontLine piece text count) (spelled : IsCollHead text head)
+    (needs : coll_line_needs text ≡ coll_need_of head) (silent : coll_line_is_silent text ≡ is_silent (coll_answer head)) (goes : coll_is_quit head ≡ false)
+    (only : (other : CollHead) → IsCollHead text other → head ≡ other) (result : Result Unit Stop) where
   -- a line that asks for no block
-  pub line_in_place : need_of head.command ≡ need.Nothing → IsSpan line_needs (take count piece) (whole.line text) → IsTold (TellsHead head []) from to result
+  pub line_in_place : coll_need_of head ≡ need.Nothing → IsSpan coll_line_needs (take count piece) (whole.line text) → IsTold (TellsHead head []) from to result
       → HandlesFront piece from to count result
   line_in_place nothing span told = (
     whole.line text,
@@ -33,8 +34,8 @@ module _ (from to : Stand) (piece text : List ℕ) (count : ℕ) (head : Head) (
   )
 
   -- a line with the block that it asks for
-  pub block_in_place : (block : List ℕ) (len limit end : ℕ) → need_of head.command ≡ need.Block len limit → len ≤ limit → IsFrontBlock piece count len block end
-      → IsSpan line_needs (take end piece) (whole.line_with_block text block) → IsTold (TellsHead head block) from to result
+  pub block_in_place : (block : List ℕ) (len limit end : ℕ) → coll_need_of head ≡ need.Block len limit → len ≤ limit → IsFrontBlock piece count len block end
+      → IsSpan coll_line_needs (take end piece) (whole.line_with_block text block) → IsTold (TellsHead head block) from to result
       → HandlesFront piece from to end result
   block_in_place block len limit end asks within behind span told = (
     whole.line_with_block text block,

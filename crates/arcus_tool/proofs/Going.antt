@@ -3,7 +3,7 @@ use Rattle.std.proofs.Common.{◌≡◌, ◌<◌, ◌≤◌, ℕ, length, arith,
 use Rattle.std.proofs.lemmas.List.{take-append-drop}
 use Rattle.std.specs.Prelude.{MatchOption, IfSome}
 use Rattle.arc_core.specs.Framing.{Whole, IsSpan, IsRest}
-use Rattle.arc_core.specs.Grammar.{line_needs}
+use Rattle.arc_core.specs.CollectionLines.{coll_line_needs}
 use Rattle.arc_core.specs.SessionText.{TellsUnit, IsQuitUnit}
 use Rattle.arc_core.specs.Outside.{then_sent, sent_more}
 use Rattle.frame_reader.specs.Progress.{Progress, StandsFor}
@@ -22,7 +22,7 @@ went_by from to taken units tail tail' same went = subst (Went from to taken uni
 
 -- the reader has taken bytes from the front of those that were behind its tail
 pub goes_on_fed : (from to : Stand) (taken : List ℕ) (progress progress' : Progress) (behind : List ℕ) (n : ℕ)
-    → ((bytes : List ℕ) → StandsFor line_needs progress bytes → StandsFor line_needs progress' (bytes ++ take n behind)) → GoesOn from to taken progress behind → GoesOn from to taken progress' (drop n behind)
+    → ((bytes : List ℕ) → StandsFor coll_line_needs progress bytes → StandsFor coll_line_needs progress' (bytes ++ take n behind)) → GoesOn from to taken progress behind → GoesOn from to taken progress' (drop n behind)
 goes_on_fed from to taken progress progress' behind n stands is = (
   is.0,
   is.1 ++ take n behind,
@@ -32,13 +32,13 @@ goes_on_fed from to taken progress progress' behind n stands is = (
   is.4,
 )
 
-module _ (from middle to : Stand) (taken : List ℕ) (units : List Whole) (unit : Whole) (span rest : List ℕ) (went : Went from middle taken units (span ++ rest)) (is_span : IsSpan line_needs span unit) where
+module _ (from middle to : Stand) (taken : List ℕ) (units : List Whole) (unit : Whole) (span rest : List ℕ) (went : Went from middle taken units (span ++ rest)) (is_span : IsSpan coll_line_needs span unit) where
   -- the next unit was told whole
   pub went_on : IsTold (TellsUnit unit) middle to (Ok tt) → Went from to taken (units ++ unit ∷ []) rest
   went_on told = record {
     entries = went.entries ++ told.0;
     text = went.text ++ told.1;
-    spans = spans_on line_needs taken units unit span rest went.spans is_span;
+    spans = spans_on coll_line_needs taken units unit span rest went.spans is_span;
     tells = tells_on units unit went.entries told.0 went.text told.1 went.tells told.2;
     executed = executed_on from middle to went.entries told.0 went.executed told.3;
     out = told.4 ∙ ap (λ o. sent_more o told.1) went.out ∙ sent_more_on from.out went.text told.1;
@@ -53,7 +53,7 @@ module _ (from middle to : Stand) (taken : List ℕ) (units : List Whole) (unit 
         tail = rest;
         entries = went.entries ++ told.0;
         text = went.text ++ told.1;
-        spans = spans_on line_needs taken units unit span rest went.spans is_span;
+        spans = spans_on coll_line_needs taken units unit span rest went.spans is_span;
         last = only_last units unit none;
         tells = tells_on units unit went.entries told.0 went.text told.1 went.tells told.2;
         executed = executed_on from middle to went.entries told.0 went.executed told.3;
@@ -74,8 +74,8 @@ not_final unit no_quit not_long (inr quits) = no_quit quits
 module _ (from middle to : Stand) (taken rest : List ℕ) (progress : Progress) (went : GoesOn from middle taken progress rest) where
   -- the unit that is ready was told whole, and the reader begins a new one
   pub told_next : (after : Progress) (ready : Option Whole) → (ready ≡ None → ⊥)
-      → ((bytes : List ℕ) → StandsFor line_needs progress bytes → MatchOption ready (IsRest line_needs bytes) (λ unit. IsSpan line_needs bytes unit))
-      → IfSome ready (λ unit. HandlesUnit unit middle to (Ok tt)) → StandsFor line_needs after [] → GoesOn from to taken after rest
+      → ((bytes : List ℕ) → StandsFor coll_line_needs progress bytes → MatchOption ready (IsRest coll_line_needs bytes) (λ unit. IsSpan coll_line_needs bytes unit))
+      → IfSome ready (λ unit. HandlesUnit unit middle to (Ok tt)) → StandsFor coll_line_needs after [] → GoesOn from to taken after rest
   told_next after None some spans handled stands = absurd (some refl)
   told_next after (Some unit) some spans handled stands = (
     went.0 ++ unit ∷ [],
@@ -86,7 +86,7 @@ module _ (from middle to : Stand) (taken rest : List ℕ) (progress : Progress) 
   )
 
   -- the unit that is ready was the last one
-  stops_at : (Last : Whole → Type 0) (most : ℕ) (unit : Whole) → length rest < most → IsSpan line_needs went.1 unit → IsTold (TellsUnit unit) middle to (Ok tt) → Last unit → StopsAt Last from to taken most
+  stops_at : (Last : Whole → Type 0) (most : ℕ) (unit : Whole) → length rest < most → IsSpan coll_line_needs went.1 unit → IsTold (TellsUnit unit) middle to (Ok tt) → Last unit → StopsAt Last from to taken most
   stops_at Last most unit short span told is_last = (
     went.0 ++ unit ∷ [],
     rest,
@@ -98,7 +98,7 @@ module _ (from middle to : Stand) (taken rest : List ℕ) (progress : Progress) 
 
   -- behind the unit that is ready the session goes no further
   pub stops_next : (most : ℕ) (ready : Option Whole) (cause : Stop) → length rest < most → (ready ≡ None → ⊥)
-      → ((bytes : List ℕ) → StandsFor line_needs progress bytes → MatchOption ready (IsRest line_needs bytes) (λ unit. IsSpan line_needs bytes unit))
+      → ((bytes : List ℕ) → StandsFor coll_line_needs progress bytes → MatchOption ready (IsRest coll_line_needs bytes) (λ unit. IsSpan coll_line_needs bytes unit))
       → IfSome ready (λ unit. HandlesUnit unit middle to (Err cause)) → Stops from to taken most cause
   stops_next most None cause short some spans handled = absurd (some refl)
   stops_next most (Some unit) stop.Failed short some spans told = broke_off from middle to taken went.0 unit went.1 rest went.2 (spans went.1 went.3) stop.Failed went.4 told
@@ -108,7 +108,7 @@ module _ (from middle to : Stand) (taken rest : List ℕ) (progress : Progress) 
 
 -- a unit at the front of a piece, where the reader holds nothing
 module _ (from middle to : Stand) (taken piece : List ℕ) (progress : Progress) (n : ℕ) (unit : Whole) (went : GoesOn from middle taken progress piece) (none : went.1 ≡ [])
-    (span : IsSpan line_needs (take n piece) unit) where
+    (span : IsSpan coll_line_needs (take n piece) unit) where
   went_front : Went from middle taken went.0 (take n piece ++ drop n piece)
   went_front = went_by from middle taken went.0 (went.1 ++ piece) (take n piece ++ drop n piece) (ap (λ t. t ++ piece) none ∙ sym (take-append-drop n piece)) went.2
 
@@ -118,7 +118,7 @@ module _ (from middle to : Stand) (taken piece : List ℕ) (progress : Progress)
     went.0 ++ unit ∷ [],
     [],
     went_on from middle to taken went.0 unit (take n piece) (drop n piece) went_front span handled.0,
-    subst (StandsFor line_needs progress) none went.3,
+    subst (StandsFor coll_line_needs progress) none went.3,
     none_on went.0 unit went.4 (not_final unit handled.1 handled.2),
   )
 

@@ -1,5 +1,6 @@
 -- What was told of a line, and of a unit.
-use Rattle.std.proofs.Common.{◌≡◌, ◌<◌, ◌^◌, ℕ, List, [], ◌∷◌, Bool, true, false, Option, Some, None, Result, Ok, Err, refl, sym, ap, ◌∙◌, inl, inr, subst, arith}
+use Rattle.std.proofs.Common.{◌≡◌, ◌<◌, ◌^◌, ℕ, List, [], ◌∷◌, Bool, true, false, Option, Some, None, Result, Ok, Err, refl, sym, ap, ◌∙◌, inl, inr, subst, arith, zero, suc}
+use Rattle.std.proofs.lemmas.Bool.{cond-false, ne_eqb}
 use Rattle.std.specs.Prelude.{if◌then◌else◌}
 use Rattle.std.specs.Option.{option_map}
 use Rattle.std.specs.Result.{result_and}
@@ -13,9 +14,13 @@ use Rattle.arc_core.specs.Outside.{Ticks}
 use Rattle.arc_core.specs.PlainRequest.{PlainRequest}
 use Rattle.arc_core.specs.declared.commands.Command.{Command}
 use Rattle.arc_core.specs.declared.commands.Command.TheVariants as command
-use Rattle.arc_core.specs.declared.commands.Head.{Head}
-use Rattle.arc_core.specs.Words.{words, keys_counted}
-use Rattle.arc_core.specs.Grammar.{IsHead, IsBlockFor, Meets, line_needs, line_is_silent, is_silent, is_quit, need_of, request_of}
+use Rattle.arc_core.specs.declared.coll_commands.CollCommand.{CollCommand}
+use Rattle.arc_core.specs.declared.coll_commands.CollCommand.TheVariants as coll_command
+use Rattle.arc_core.specs.declared.coll_commands.CollHead.{CollHead}
+use Rattle.arc_core.specs.declared.coll_commands.CollHead.TheVariants as coll_head
+use Rattle.arc_core.specs.Words.{words, fields_counted, keys_counted}
+use Rattle.arc_core.specs.CollectionLines.{IsCollHead, coll_line_needs, coll_line_is_silent, coll_is_quit, coll_answer, coll_need_of, coll_request_of, element_limit, fields_need}
+use Rattle.arc_core.specs.Grammar.{Meets, block_limit, is_quit, is_silent, need_of, request_of}
 use Rattle.arc_core.specs.History.{Entry, Executes}
 use Rattle.arc_core.specs.ReplyText.{reply_text, word_line}
 use Rattle.arc_core.specs.Framing.{Whole}
@@ -37,12 +42,12 @@ no_head fault other e = cc
 pub nothing_executed : (from to : Stand) → to.state ≡ from.state → to.coming ≡ from.coming → Executed from to []
 nothing_executed from to state coming = record { legal = state; seconds = coming; own = tt }
 
-module _ (from to : Stand) (head : Head) (block : List ℕ) (silent : Bool) (same : silent ≡ is_silent head.answer) (result : Result Unit Stop) where
+module _ (from to : Stand) (head : CollHead) (block : List ℕ) (silent : Bool) (same : silent ≡ is_silent (coll_answer head)) (result : Result Unit Stop) where
   sends_heard : (answer : List ℕ) → SendsBetween from to (if silent then [] else answer) result → SendsBetween from to (heard head answer) result
   sends_heard answer sends = subst (λ s. SendsBetween from to (if s then [] else answer) result) same sends
 
   -- a request was executed at a second of the clock, and its reply was sent
-  pub told_request : (request : PlainRequest) (reply : Reply) (second : ℕ) → second < 2 ^ 32 → Some request ≡ request_of head block
+  pub told_request : (request : PlainRequest) (reply : Reply) (second : ℕ) → second < 2 ^ 32 → Some request ≡ coll_request_of head block
       → Ticks from.coming second to.coming → Executes from.state second request reply to.state → SendsBetween from to (if silent then [] else reply_text reply) result
       → IsTold (TellsHead head block) from to result
   told_request request reply second fits is ticks executes sends =
@@ -59,48 +64,85 @@ module _ (from to : Stand) (head : Head) (block : List ℕ) (silent : Bool) (sam
       )
 
   -- the block is bad, and was answered so
-  pub told_bad_block : None ≡ request_of head block → to.state ≡ from.state → to.coming ≡ from.coming → SendsBetween from to (if silent then [] else word_line word.BadChunk) result
+  pub told_bad_block : None ≡ coll_request_of head block → to.state ≡ from.state → to.coming ≡ from.coming → SendsBetween from to (if silent then [] else word_line word.BadChunk) result
       → IsTold (TellsHead head block) from to result
   told_bad_block is state coming sends =
       ([], heard head (word_line word.BadChunk), inr (sym is, refl, refl), nothing_executed from to state coming, sends_heard (word_line word.BadChunk) sends)
+
+-- The need is a block.
+pub record IsSomeBlock (asks : Need) : Type 0 where
+  pub len : ℕ
+  pub limit : ℕ
+  pub is : asks ≡ need.Block len limit
+
+a_block : (len limit : ℕ) → IsSomeBlock (need.Block len limit)
+a_block len limit = record { len = len; limit = limit; is = refl }
+
+-- a key-value command that does not end the session has a request with no block, or it asks for one
+keys_are_asked : (asked : Command) (answer : Answer) (block : List ℕ) → is_quit asked ≡ false → request_of (record { command = asked; answer = answer }) block ≡ None
+    → IsSomeBlock (need_of asked)
+keys_are_asked (command.Store verb key flags exptime len) answer block goes none = a_block len block_limit
+keys_are_asked (command.Get keys unique) answer block goes none = absurd cc
+keys_are_asked (command.GetBlock len number) answer block goes none = a_block len block_limit
+keys_are_asked (command.Count up key delta initial) answer block goes none = absurd cc
+keys_are_asked (command.Delete key) answer block goes none = absurd cc
+keys_are_asked (command.Touch key exptime) answer block goes none = absurd cc
+keys_are_asked command.FlushAll answer block goes none = absurd cc
+keys_are_asked command.Version answer block goes none = absurd cc
+keys_are_asked command.Quit answer block goes none = absurd cc
 
 -- an option that maps to none is none
 mapped_none : {A B : Type 0} (f : A → B) (of : Option A) → option_map f of ≡ None → of ≡ None
 mapped_none f None e = refl
 mapped_none f (Some a) e = cc
 
--- A command with this block is one whose keys stand in it, and they are not so many.
-pub record AsksForKeys (asked : Command) (block : List ℕ) : Type 0 where
-  pub len : ℕ
-  pub number : ℕ
-  pub is : asked ≡ command.GetBlock len number
-  pub not_so_many : keys_counted number (words block) ≡ None
+-- no words are no fields
+no_fields : fields_counted 0 (words []) ≡ Some []
+unfolding keys_counted
+no_fields = refl
 
--- where there is no request, the block of keys is bad
-keys_are_bad : (asked : Command) (answer : Answer) (block : List ℕ) → is_quit asked ≡ false → request_of (record { command = asked; answer = answer }) block ≡ None → AsksForKeys asked block
-keys_are_bad (command.Store verb key flags exptime len) answer block goes none = absurd cc
-keys_are_bad (command.Get keys unique) answer block goes none = absurd cc
-keys_are_bad (command.GetBlock len number) answer block goes none =
-    let keys = keys_counted number (words block) in
-    record { len = len; number = number; is = refl; not_so_many = mapped_none _ keys (mapped_none _ _ none) }
-keys_are_bad (command.Count up key delta initial) answer block goes none = absurd cc
-keys_are_bad (command.Delete key) answer block goes none = absurd cc
-keys_are_bad (command.Touch key exptime) answer block goes none = absurd cc
-keys_are_bad command.FlushAll answer block goes none = absurd cc
-keys_are_bad command.Version answer block goes none = absurd cc
-keys_are_bad command.Quit answer block goes none = absurd cc
+-- where a block is not so many fields, it is asked for
+fields_are_asked : (len number : ℕ) (block : List ℕ) → Meets (fields_need len number) block → fields_counted number (words block) ≡ None → IsSomeBlock (fields_need len number)
+fields_are_asked len zero block is none =
+    let e : Some [] ≡ None = sym no_fields ∙ ap (λ b. fields_counted 0 (words b)) (sym is) ∙ none in
+    absurd cc
+fields_are_asked len (suc number) block is none =
+    record { len = len; limit = block_limit; is = cond-false _ _ _ (ne_eqb (suc number) 0 (λ e. omega (arith, e))) }
 
--- a command that ends the session
-quit_of : (asked : Command) → is_quit asked ≡ true → asked ≡ command.Quit
-quit_of (command.Store verb key flags exptime len) e = cc
-quit_of (command.Get keys unique) e = cc
-quit_of (command.GetBlock len number) e = cc
-quit_of (command.Count up key delta initial) e = cc
-quit_of (command.Delete key) e = cc
-quit_of (command.Touch key exptime) e = cc
-quit_of command.FlushAll e = cc
-quit_of command.Version e = cc
-quit_of command.Quit e = refl
+-- a command on a collection has a request with no block, or it asks for one
+fields_or_block : (asked : CollCommand) (answer : Answer) (block : List ℕ) → Meets (coll_need_of (coll_head.Collection asked answer)) block
+    → coll_request_of (coll_head.Collection asked answer) block ≡ None → IsSomeBlock (coll_need_of (coll_head.Collection asked answer))
+fields_or_block (coll_command.Create kind key args) answer block is none = absurd cc
+fields_or_block (coll_command.ListInsert key index len create) answer block is none = a_block len element_limit
+fields_or_block (coll_command.ListDelete key range drop_empty) answer block is none = absurd cc
+fields_or_block (coll_command.ListGet key range taking) answer block is none = absurd cc
+fields_or_block (coll_command.SetInsert key len create) answer block is none = a_block len element_limit
+fields_or_block (coll_command.SetDelete key len drop_empty) answer block is none = a_block len element_limit
+fields_or_block (coll_command.SetExist key len) answer block is none = a_block len element_limit
+fields_or_block (coll_command.SetGet key count taking) answer block is none = absurd cc
+fields_or_block (coll_command.MapInsert key field len create) answer block is none = a_block len element_limit
+fields_or_block (coll_command.MapUpdate key field len) answer block is none = a_block len element_limit
+fields_or_block (coll_command.MapUpsert key field len create) answer block is none = a_block len element_limit
+fields_or_block (coll_command.MapDelete key len number drop_empty) answer block is none =
+    fields_are_asked len number block is (mapped_none _ (fields_counted number (words block)) (mapped_none _ _ none))
+fields_or_block (coll_command.MapGet key len number taking) answer block is none =
+    fields_are_asked len number block is (mapped_none _ (fields_counted number (words block)) (mapped_none _ _ none))
+
+-- where there is no request, a block is asked for: it is not the keys or fields that are named
+block_is_asked : (head : CollHead) (block : List ℕ) → coll_is_quit head ≡ false → Meets (coll_need_of head) block → coll_request_of head block ≡ None
+    → IsSomeBlock (coll_need_of head)
+block_is_asked (coll_head.KeyValue head) block goes is none = keys_are_asked head.command head.answer block goes none
+block_is_asked (coll_head.Collection asked answer) block goes is none = fields_or_block asked answer block is none
+
+-- a key-value command that ends the session asks for no block
+quit_asks_nothing : (asked : Command) → is_quit asked ≡ true → need_of asked ≡ need.Nothing
+quit_asks_nothing command.Quit quits = refl
+quit_asks_nothing other quits = cc
+
+-- a head that ends the session asks for no block
+nothing_asked_at_quit : (head : CollHead) → coll_is_quit head ≡ true → coll_need_of head ≡ need.Nothing
+nothing_asked_at_quit (coll_head.KeyValue head) quits = quit_asks_nothing head.command quits
+nothing_asked_at_quit (coll_head.Collection asked answer) quits = absurd cc
 
 -- what was sent was sent for no reason to stop but a fault
 module _ {Told : List Entry → List ℕ → Type 0} {Quits Long : Type 0} (from to : Stand) (no_quit : Quits → ⊥) (not_long : Long → ⊥) where
@@ -113,14 +155,13 @@ module _ {Told : List Entry → List ℕ → Type 0} {Quits Long : Type 0} (from
   handled (Err stop.Quit) told = absurd told.4.1
 
 -- the line is `quit`
-pub quits_by : (line : List ℕ) (head : Head) → IsHead line head → line_needs line ≡ need_of head.command → is_quit head.command ≡ true → QuitsByLine line
+pub quits_by : (line : List ℕ) (head : CollHead) → IsCollHead line head → coll_line_needs line ≡ coll_need_of head → coll_is_quit head ≡ true → QuitsByLine line
 quits_by line head is_head needs quits =
-    let is : head.command ≡ command.Quit = quit_of head.command quits in
-    record { is_quit = (head, is_head, is); asks_nothing = needs ∙ ap need_of is }
+    record { is_quit = (head, is_head, quits); asks_nothing = needs ∙ nothing_asked_at_quit head quits }
 
-module _ (from to : Stand) (line block : List ℕ) (head : Head) (is_head : IsHead line head) (needs : line_needs line ≡ need_of head.command) where
+module _ (from to : Stand) (line block : List ℕ) (head : CollHead) (is_head : IsCollHead line head) (needs : coll_line_needs line ≡ coll_need_of head) where
   -- what the head told, the line told
-  told_line : (result : Result Unit Stop) → IsBlockFor head.command block → line_is_silent line ≡ is_silent head.answer → is_quit head.command ≡ false
+  told_line : (result : Result Unit Stop) → Meets (coll_need_of head) block → coll_line_is_silent line ≡ is_silent (coll_answer head) → coll_is_quit head ≡ false
       → IsTold (TellsHead head block) from to result → IsTold (TellsLine line block) from to result
   told_line result is_block silent goes told = (told.0, told.1, tells told.0 told.1 told.2, told.3, told.4)
     where
@@ -130,24 +171,24 @@ module _ (from to : Stand) (line block : List ℕ) (head : Head) (is_head : IsHe
       tells : (entries : List Entry) (text : List ℕ) → TellsHead head block entries text → TellsLine line block entries text
       tells entries text (inl is) = inl (is.0, (head, is_head, is_block, is.1), is.2, is.3 ∙ sent (reply_text is.0.reply))
       tells entries text (inr is) =
-          let keys = keys_are_bad head.command head.answer block goes is.0 in
+          let asked = block_is_asked head block goes is_block is.0 in
           inr (inl (
             word.BadChunk,
-            inr (keys.len, 1048576, needs ∙ ap need_of keys.is, (head, keys.len, keys.number, is_head, keys.is, is_block, keys.not_so_many), refl),
+            inr (asked.len, asked.limit, needs ∙ asked.is, (head, is_head, goes, is_block, is.0), refl),
             is.1,
             is.2 ∙ sent (word_line word.BadChunk),
           ))
 
   -- the line of this head was handled
-  pub handles_head : (result : Result Unit Stop) → IsBlockFor head.command block → line_is_silent line ≡ is_silent head.answer → is_quit head.command ≡ false
-      → ((other : Head) → IsHead line other → head ≡ other) → IsTold (TellsHead head block) from to result → HandlesLine line block from to result
+  pub handles_head : (result : Result Unit Stop) → Meets (coll_need_of head) block → coll_line_is_silent line ≡ is_silent (coll_answer head) → coll_is_quit head ≡ false
+      → ((other : CollHead) → IsCollHead line other → head ≡ other) → IsTold (TellsHead head block) from to result → HandlesLine line block from to result
   handles_head result is_block silent goes only told =
       handled from to (λ quits. no_quit quits) (λ long. long) result (told_line result is_block silent goes told)
     where
       no_quit : QuitsByLine line → ⊥
       no_quit quits =
           let other = quits.is_quit in
-          let same : is_quit head.command ≡ true = ap (λ (h : Head). is_quit h.command) (only other.0 other.1) ∙ ap is_quit other.2 in
+          let same : coll_is_quit head ≡ true = ap coll_is_quit (only other.0 other.1) ∙ other.2 in
           let e : true ≡ false = sym same ∙ goes in
           cc
 
@@ -157,16 +198,16 @@ handles_quit at line block quits =
     (([], [], inr (inr (quits, refl, refl)), nothing_executed at at refl refl, sym (sent_no_more at.out)), quits)
 
 -- the session answered the line
-pub handles_fault : (from to : Stand) (line block : List ℕ) (answer : Word) (result : Result Unit Stop) → AnswersLine line block answer → line_is_silent line ≡ false
-    → ((head : Head) → IsHead line head → ⊥) → to.state ≡ from.state → to.coming ≡ from.coming → SendsBetween from to (word_line answer) result → HandlesLine line block from to result
+pub handles_fault : (from to : Stand) (line block : List ℕ) (answer : Word) (result : Result Unit Stop) → AnswersLine line block answer → coll_line_is_silent line ≡ false
+    → ((head : CollHead) → IsCollHead line head → ⊥) → to.state ≡ from.state → to.coming ≡ from.coming → SendsBetween from to (word_line answer) result → HandlesLine line block from to result
 handles_fault from to line block answer result why silent none state coming sends =
     let said : SendsBetween from to (sent_for line (word_line answer)) result =
     subst (λ s. SendsBetween from to (if s then [] else word_line answer) result) (sym silent) sends in
     handled from to (λ (quits : QuitsByLine line). none quits.is_quit.0 quits.is_quit.1) (λ long. long) result
     ([], sent_for line (word_line answer), inr (inl (answer, why, refl, refl)), nothing_executed from to state coming, said)
 
--- a line's block is one that its command may have
-pub block_for : (need : Need) (line block : List ℕ) → line_needs line ≡ need → HasItsBlock line block → Meets need block
+-- a line's block is one that its head may have
+pub block_for : (need : Need) (line block : List ℕ) → coll_line_needs line ≡ need → HasItsBlock line block → Meets need block
 block_for need.Nothing line block needs (inl none) = none.1
 block_for need.Nothing line block needs (inr one) = absurd (asks_nothing one.0 one.1 (sym one.2 ∙ needs))
   where
@@ -182,14 +223,14 @@ block_for (need.Block len limit) line block needs (inr one) =
     let limit_is : one.1 ≡ limit = cc in
     (one.3 ∙ len_is, omega (arith, one.4))
 
-nothing_is_asked : (line : List ℕ) (len limit : ℕ) → line_needs line ≡ need.Nothing → line_needs line ≡ need.Block len limit → ⊥
+nothing_is_asked : (line : List ℕ) (len limit : ℕ) → coll_line_needs line ≡ need.Nothing → coll_line_needs line ≡ need.Block len limit → ⊥
 nothing_is_asked line len limit nothing block = differ (sym nothing ∙ block)
   where
     differ : need.Nothing ≡ need.Block len limit → ⊥
     differ e = cc
 
 -- what a unit without a block told, by its line
-pub line_handled : (from to : Stand) (text : List ℕ) (result : Result Unit Stop) → line_needs text ≡ need.Nothing → HandlesLine text [] from to result → HandlesUnit (whole.line text) from to result
+pub line_handled : (from to : Stand) (text : List ℕ) (result : Result Unit Stop) → coll_line_needs text ≡ need.Nothing → HandlesLine text [] from to result → HandlesUnit (whole.line text) from to result
 line_handled from to text result nothing is = by_cases result is
   where
     tells : (entries : List Entry) (said : List ℕ) → TellsLine text [] entries said → TellsUnit (whole.line text) entries said
@@ -214,7 +255,7 @@ line_handled from to text result nothing is = by_cases result is
     by_cases (Err stop.Quit) is = (told (Ok tt) is.0, is.1.is_quit)
 
 -- what a line with its block told
-pub block_handled : (from to : Stand) (text block : List ℕ) (len limit : ℕ) (result : Result Unit Stop) → line_needs text ≡ need.Block len limit → HandlesLine text block from to result
+pub block_handled : (from to : Stand) (text block : List ℕ) (len limit : ℕ) (result : Result Unit Stop) → coll_line_needs text ≡ need.Block len limit → HandlesLine text block from to result
     → HandlesUnit (whole.line_with_block text block) from to result
 block_handled from to text block len limit result asks is = by_cases result is
   where

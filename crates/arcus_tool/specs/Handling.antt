@@ -7,8 +7,9 @@ use Rattle.arc_core.specs.declared.replies.Word.{Word}
 use Rattle.arc_core.specs.declared.replies.Word.TheVariants as word
 use Rattle.arc_core.specs.Outside.{Ticks, Outgoing, sent_more}
 use Rattle.arc_core.specs.Framing.{Whole, BeginsWith, IsSpan, line_too_long}
-use Rattle.arc_core.specs.declared.commands.Head.{Head}
-use Rattle.arc_core.specs.Grammar.{SpellsRequest, IsUnknown, IsBadFormat, IsBadBlock, IsQuit, line_needs, is_silent, request_of}
+use Rattle.arc_core.specs.declared.coll_commands.CollHead.{CollHead}
+use Rattle.arc_core.specs.CollectionLines.{SpellsRequest, IsCollUnknown, IsCollBadFormat, IsBadBlock, IsQuit, coll_line_needs, coll_answer, coll_request_of}
+use Rattle.arc_core.specs.Grammar.{is_silent}
 use Rattle.arc_core.specs.CacheState.{CacheState}
 use Rattle.arc_core.specs.History.{Entry, Replays}
 use Rattle.arc_core.specs.ReplyText.{reply_text, word_line}
@@ -53,25 +54,25 @@ abbrev pub IsTold : (List Entry → List ℕ → Type 0) → Stand → Stand →
 IsTold Told from to result = (entries : List Entry) × (text : List ℕ) × Told entries text × Executed from to entries × SendsBetween from to text result
 
 -- what is sent of an answer to this head
-abbrev pub heard : Head → List ℕ → List ℕ
-heard head answer = if is_silent head.answer then [] else answer
+abbrev pub heard : CollHead → List ℕ → List ℕ
+heard head answer = if is_silent (coll_answer head) then [] else answer
 
 -- What a head with its block tells: its request is executed; or there is none, and the block is answered as bad.
-abbrev pub TellsHead : Head → List ℕ → List Entry → List ℕ → Type 0
+abbrev pub TellsHead : CollHead → List ℕ → List Entry → List ℕ → Type 0
 TellsHead head block entries text =
-    ((entry : Entry) × (request_of head block ≡ Some entry.request) × (entries ≡ entry ∷ []) × (text ≡ heard head (reply_text entry.reply)))
-    ⊎ ((request_of head block ≡ None) × (entries ≡ []) × (text ≡ heard head (word_line word.BadChunk)))
+    ((entry : Entry) × (coll_request_of head block ≡ Some entry.request) × (entries ≡ entry ∷ []) × (text ≡ heard head (reply_text entry.reply)))
+    ⊎ ((coll_request_of head block ≡ None) × (entries ≡ []) × (text ≡ heard head (word_line word.BadChunk)))
 
 -- The session answers the line with its block by itself, with this word.
 abbrev pub AnswersLine : List ℕ → List ℕ → Word → Type 0
 AnswersLine line block answer =
-    ((line_needs line ≡ need.Nothing) × ((IsUnknown line × (answer ≡ word.Unknown)) ⊎ (IsBadFormat line × (answer ≡ word.BadFormat))))
-    ⊎ ((len : ℕ) × (limit : ℕ) × (line_needs line ≡ need.Block len limit) × IsBadBlock line block × (answer ≡ word.BadChunk))
+    ((coll_line_needs line ≡ need.Nothing) × ((IsCollUnknown line × (answer ≡ word.Unknown)) ⊎ (IsCollBadFormat line × (answer ≡ word.BadFormat))))
+    ⊎ ((len : ℕ) × (limit : ℕ) × (coll_line_needs line ≡ need.Block len limit) × IsBadBlock line block × (answer ≡ word.BadChunk))
 
 -- The line asks for no block, and ends the session.
 pub record QuitsByLine (line : List ℕ) : Type 0 where
   pub is_quit : IsQuit line
-  pub asks_nothing : line_needs line ≡ need.Nothing
+  pub asks_nothing : coll_line_needs line ≡ need.Nothing
 
 -- What a line with its block tells: its request is executed; or the session answers it; or it ends the session.
 abbrev pub TellsLine : List ℕ → List ℕ → List Entry → List ℕ → Type 0
@@ -99,8 +100,8 @@ HandlesUnit unit from to result = Handles (TellsUnit unit) (IsQuitUnit unit) (un
 -- The line asks for no block and there is none, or it asks for one of this length, within its limit.
 abbrev pub HasItsBlock : List ℕ → List ℕ → Type 0
 HasItsBlock line block =
-    ((line_needs line ≡ need.Nothing) × (block ≡ []))
-    ⊎ ((len : ℕ) × (limit : ℕ) × (line_needs line ≡ need.Block len limit) × (length block ≡ len) × (len ≤ limit))
+    ((coll_line_needs line ≡ need.Nothing) × (block ≡ []))
+    ⊎ ((len : ℕ) × (limit : ℕ) × (coll_line_needs line ≡ need.Block len limit) × (length block ≡ len) × (len ≤ limit))
 
 -- The unit is a line that is too long.
 abbrev pub IsTooLong : Whole → Type 0
@@ -131,7 +132,7 @@ pub record EndsWith (Last : Whole → Type 0) (units : List Whole) : Type 0 wher
 pub record Went (from to : Stand) (taken : List ℕ) (units : List Whole) (tail : List ℕ) : Type 0 where
   pub entries : List Entry
   pub text : List ℕ
-  pub spans : BeginsWith line_needs taken units tail
+  pub spans : BeginsWith coll_line_needs taken units tail
   pub tells : Tells true units entries text
   pub executed : Executed from to entries
   pub out : to.out ≡ sent_more from.out text
@@ -142,7 +143,7 @@ pub record BrokeOff (from to : Stand) (taken : List ℕ) (cause : Stop) : Type 0
   pub tail : List ℕ
   pub entries : List Entry
   pub text : List ℕ
-  pub spans : BeginsWith line_needs taken units tail
+  pub spans : BeginsWith coll_line_needs taken units tail
   pub last : OnlyLastFinal units
   pub tells : Tells true units entries text
   pub executed : Executed from to entries
@@ -164,13 +165,13 @@ Stops from to taken most stop.Quit = StopsAt IsQuitUnit from to taken most
 -- The session went on so far that the reader has taken all of the tail but these bytes.
 abbrev pub GoesOn : Stand → Stand → List ℕ → Progress → List ℕ → Type 0
 GoesOn from to taken progress behind =
-    (units : List Whole) × (tail : List ℕ) × Went from to taken units (tail ++ behind) × StandsFor line_needs progress tail × NoneFinal units
+    (units : List Whole) × (tail : List ℕ) × Went from to taken units (tail ++ behind) × StandsFor coll_line_needs progress tail × NoneFinal units
 
 -- No unit is ready; the reader stands for some bytes.
 pub record IsBetweenUnits (progress : Progress) : Type 0 where
   pub waits : ready_unit progress ≡ None
   pub tail : List ℕ
-  pub stands : StandsFor line_needs progress tail
+  pub stands : StandsFor coll_line_needs progress tail
 
 -- All bytes of a piece of this length were taken and the session goes on, or it stops.
 abbrev pub TakesAll : Stand → Stand → List ℕ → ℕ → Progress → Result Prim.Unit Stop → Type 0
@@ -191,7 +192,7 @@ TakesOn here progress there progress' piece result =
 -- A unit is the front of the piece, so many bytes of it, and was handled so.
 abbrev pub HandlesFront : List ℕ → Stand → Stand → ℕ → Result Prim.Unit Stop → Type 0
 HandlesFront piece from to count result =
-    (unit : Whole) × (0 < count) × (count ≤ length piece) × IsSpan line_needs (take count piece) unit × HandlesUnit unit from to result
+    (unit : Whole) × (0 < count) × (count ≤ length piece) × IsSpan coll_line_needs (take count piece) unit × HandlesUnit unit from to result
 
 -- The unit at the front of the piece was handled, or nothing was done.
 abbrev pub TakesFront : List ℕ → Stand → Stand → Result (Option ℕ) Stop → Type 0

@@ -3,7 +3,7 @@ use Rattle.std.specs.Prelude.{◌≡◌, ◌⊎◌, ℕ, ◌^◌, ◌<◌, ◌�
 use Rattle.std.specs.List.{AllByRecursion}
 use Rattle.arc_core.specs.Outside.{Rose, Incoming, Outgoing, first_then, sent_more}
 use Rattle.arc_core.specs.Framing.{Whole, BeginsWith, IsRest}
-use Rattle.arc_core.specs.Grammar.{line_needs}
+use Rattle.arc_core.specs.CollectionLines.{coll_line_needs}
 use Rattle.arc_core.specs.CacheState.{CacheState, IsState}
 use Rattle.arc_core.specs.History.{Entry, Replays}
 use Rattle.arc_core.specs.SessionText.{Tells, IsQuitUnit}
@@ -50,7 +50,7 @@ pub record ReadToEnd (before after : Outside) (taken : List ℕ) : Type 0 where
 -- Behind the last unit no further one begins: none is a line that is too long or `quit`, and the tail is unfinished.
 pub record HandledAll (units : List Whole) (tail : List ℕ) : Type 0 where
   pub none_final : NoneFinal units
-  pub unfinished : IsRest line_needs tail
+  pub unfinished : IsRest coll_line_needs tail
 
 -- The source ended behind a unit, and all was sent.
 pub record EndsBehindAUnit (before after : Outside) (taken : List ℕ) (units : List Whole) (tail text : List ℕ) : Type 0 where
@@ -151,7 +151,7 @@ pub record IsSession (opening : CacheState) (before after : Outside) (ended : St
   -- the bytes were the next ones that the source had left
   pub took : before.incoming.left ≡ first_then taken after.incoming.left
   -- the units are the first ones of these bytes, and none was handled behind `quit` or a line that is too long
-  pub spans : BeginsWith line_needs taken units tail
+  pub spans : BeginsWith coll_line_needs taken units tail
   pub last : OnlyLastFinal units
   -- the requests and replies are those of the units in their order, and the text is theirs
   pub tells : Tells (is_closed ended) units entries text
@@ -174,7 +174,7 @@ pub record IsSession (opening : CacheState) (before after : Outside) (ended : St
 pub record IsWholeInput (input : List ℕ) : Type 0 where
   pub units : List Whole
   pub tail : List ℕ
-  pub spans : BeginsWith line_needs input units tail
+  pub spans : BeginsWith coll_line_needs input units tail
   pub none_too_long : AllByRecursion (λ unit. IsTooLong unit → ⊥) units
   pub ends : (tail ≡ []) ⊎ EndsWith IsQuitUnit units
 
@@ -239,5 +239,5 @@ status_at_end (byte ∷ bytes) = status.CutInput (length (byte ∷ bytes))
 
 -- The reader has taken no byte.
 pub record IsFresh (progress : Progress) : Type 0 where
-  pub stands : StandsFor line_needs progress []
+  pub stands : StandsFor coll_line_needs progress []
   pub waits : ready_unit progress ≡ None

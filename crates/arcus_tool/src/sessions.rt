@@ -2,7 +2,7 @@
 ghost use Rattle.std.specs.Prelude.{◌≡◌, ◌+◌, ◌^◌, ◌<◌, ◌≤◌, ℕ, List, [], length, None, IfOk, OnOk, vec_len};
 ghost use Rattle.arc_core.specs.Outside.{incoming, outgoing, then_sent};
 ghost use Rattle.arc_core.specs.CacheState.{CacheState, opening_state};
-ghost use Rattle.arc_core.specs.Grammar.{line_needs};
+ghost use Rattle.arc_core.specs.CollectionLines.{coll_line_needs};
 ghost use Rattle.frame_reader.specs.Progress.{StandsFor, ready_unit};
 ghost use Rattle.arcus_tool.specs.Handling.{stand, IsBetweenUnits};
 ghost use Rattle.arcus_tool.specs.Session.{Outside, outside, IsSession, IsComplete, RanSoFar, CameTo, TurnLeaves, TurnKeeps, Finishes, status_at_end, IsFresh};
@@ -14,10 +14,10 @@ use crate::stops::{Stop, Turn};
 use crate::units::take_piece;
 use arc_core::{Clock, Executor, NoMemory, Pull, Sink, Source};
 use cache_engine::{Cache, Settings};
+use coll_grammar::AllHeads;
 use frame_reader::{
     Frames, beginnings_agree, reader_stands_for_a_unit, rest_begins_with_no_unit, units_stay,
 };
-use line_grammar::KvHeads;
 use reply_print::Outbox;
 use std::alloc::Global;
 use std::marker::Brand;
@@ -45,7 +45,7 @@ fn finish<'a, 'b, S: Source, K: Sink, J: Joins>(
 
 // Handles the units that get whole by a piece. Their texts wait, or were sent where the session is over.
 fn handle_piece<'a, 'b, S: Source, K: Sink, E: Executor, C: Clock, J: Joins>(
-    frames: &mut Frames<KvHeads>,
+    frames: &mut Frames<AllHeads>,
     exec: &mut E,
     clock: &mut C,
     link: &mut JoinedLink<'a, 'b, S, K, J>,
@@ -76,7 +76,7 @@ fn handle_piece<'a, 'b, S: Source, K: Sink, E: Executor, C: Clock, J: Joins>(
 
 // Sends what waits, pulls once, and handles the units that get whole by the bytes that come.
 fn pull_once<'a, 'b, S: Source, K: Sink, E: Executor, C: Clock, J: Joins>(
-    frames: &mut Frames<KvHeads>,
+    frames: &mut Frames<AllHeads>,
     exec: &mut E,
     clock: &mut C,
     link: &mut JoinedLink<'a, 'b, S, K, J>,
@@ -108,9 +108,9 @@ fn pull_once<'a, 'b, S: Source, K: Sink, E: Executor, C: Clock, J: Joins>(
 }
 
 // The status where the source has ended.
-fn at_end(frames: &Frames<KvHeads>) -> Status
+fn at_end(frames: &Frames<AllHeads>) -> Status
     requires { ready_unit frames.now ≡ None }
-    ensures { (tail : List ℕ) → StandsFor line_needs frames.now tail → result ≡ status_at_end tail }
+    ensures { (tail : List ℕ) → StandsFor coll_line_needs frames.now tail → result ≡ status_at_end tail }
 {
     match frames.held() {
         0 => Status::Done,
@@ -120,7 +120,7 @@ fn at_end(frames: &Frames<KvHeads>) -> Status
 
 // Runs a session on a link to its end. The frames are fresh, and nothing was sent since the two were joined.
 fn serve<'a, 'b, S: Source, K: Sink, E: Executor, C: Clock, J: Joins>(
-    frames: &mut Frames<KvHeads>,
+    frames: &mut Frames<AllHeads>,
     exec: &mut E,
     clock: &mut C,
     link: &mut JoinedLink<'a, 'b, S, K, J>,
@@ -160,7 +160,7 @@ fn serve_pair<'a, 'b, S: Source, K: Sink, C: Clock, E: Executor, J: Joins>(
     outbox: Outbox,
     clock: &mut C,
     exec: &mut E,
-    frames: &mut Frames<KvHeads>,
+    frames: &mut Frames<AllHeads>,
     buffer: &mut [u8],
 ) -> (Pair<'a, 'b, S, K>, Status)
     requires some { 0 < length buffer.old }
@@ -245,7 +245,7 @@ fn run_session<S: Source, K: Sink, C: Clock>(
     let Ok(mut cache) = Cache::new(alloc, settings) else {
         return Status::NoMemory;
     };
-    let Ok(mut frames) = Frames::new(alloc, KvHeads) else {
+    let Ok(mut frames) = Frames::new(alloc, AllHeads) else {
         return Status::NoMemory;
     };
     let Ok(mut buffer) = zeros(alloc, PIECE_BYTES) else {

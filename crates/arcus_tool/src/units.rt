@@ -2,7 +2,8 @@
 ghost use Rattle.std.specs.Prelude.{◌≡◌, ◌<◌, ◌≤◌, ◌^◌, ℕ, List, [], length, if◌then◌else◌, false, IfOk, IfSome, OnOk};
 ghost use Rattle.arc_core.specs.Outside.{incoming, outgoing};
 ghost use Rattle.arc_core.specs.Framing.{IsSpan};
-ghost use Rattle.arc_core.specs.Grammar.{IsHead, IsBlockFor, is_quit, line_needs, line_is_silent};
+ghost use Rattle.arc_core.specs.CollectionLines.{IsCollHead, coll_is_quit, coll_line_is_silent, coll_line_needs, coll_need_of};
+ghost use Rattle.arc_core.specs.Grammar.{Meets};
 ghost use Rattle.arc_core.specs.ReplyText.{reply_text, word_line};
 ghost use Rattle.arc_core.specs.SessionText.{sent_for};
 ghost use Rattle.frame_reader.specs.Units.{whole_of};
@@ -11,9 +12,9 @@ ghost use Rattle.arcus_tool.specs.Handling.{Stand, stand, IsTold, TellsHead, Has
 
 use crate::joined::Gathers;
 use crate::stops::Stop;
-use arc_core::{BlockFault, Clock, Executor, Head, Need, Reply, Word};
+use arc_core::{BlockFault, Clock, CollHead, Executor, Need, Reply, Word};
+use coll_grammar::{AllHeads, LineFault, join, read_head};
 use frame_reader::{Frames, Unit, front_block, front_line, fronts_are_units};
-use line_grammar::{KvHeads, LineFault, read_line};
 use reply_print::{Wrote, write_reply};
 
 // Sends the text of a reply, or nothing where no answer is to be sent.
@@ -62,9 +63,9 @@ fn send_word<L: Gathers>(link: &mut L, word: Word, silent: bool) -> Result<(), S
 
 // Whether the line asks that no answer be sent.
 fn is_silent(line: &[u8]) -> bool
-    ensures { result ≡ line_is_silent line.now }
+    ensures { result ≡ coll_line_is_silent line.now }
 {
-    match read_line(line) {
+    match read_head(line) {
         Ok(head) => head.is_silent(),
         Err(_) => false,
     }
@@ -80,25 +81,25 @@ fn answer_itself<L: Gathers>(link: &mut L, line: &[u8], word: Word) -> Result<()
     send_word(link, word, silent)
 }
 
-// Executes the request of a head and its block at the clock's second, and answers. A block that is not the keys that
-// its line names is answered by the session.
+// Executes the request of a head and its block at the clock's second, and answers. A block that is not the keys or fields
+// that its line names is answered by the session.
 fn execute<'a, E: Executor, C: Clock, L: Gathers>(
     exec: &mut E,
     clock: &mut C,
     link: &mut L,
-    head: Head<'a>,
+    head: CollHead<'a>,
     block: &'a [u8],
 ) -> Result<(), Stop>
-    requires spelled { (line : List ℕ) × IsHead line head }
-    requires block { IsBlockFor head.command block.now }
-    requires goes_on { is_quit head.command ≡ false }
+    requires spelled { (line : List ℕ) × IsCollHead line head }
+    requires block { Meets (coll_need_of head) block.now }
+    requires goes_on { coll_is_quit head ≡ false }
     ensures told { IsTold (TellsHead head.entry block.now)
         (stand (E.state exec.old) (C.coming clock.old) (outgoing (L.sent link.old) (L.write_faults link.old) (L.refusals link.old)))
         (stand (E.state exec.new) (C.coming clock.new) (outgoing (L.sent link.new) (L.write_faults link.new) (L.refusals link.new))) result }
     ensures incoming { incoming (L.left link.new) (L.read_faults link.new) ≡ incoming (L.left link.old) (L.read_faults link.old) }
 {
     let silent = head.is_silent();
-    match head.with_block(block) {
+    match join(head, block) {
         Ok(request) => {
             let now = clock.second();
             let reply = exec.execute(now, &request);
@@ -122,7 +123,7 @@ fn answer_line<E: Executor, C: Clock, L: Gathers>(
         (stand (E.state exec.new) (C.coming clock.new) (outgoing (L.sent link.new) (L.write_faults link.new) (L.refusals link.new))) result }
     ensures incoming { incoming (L.left link.new) (L.read_faults link.new) ≡ incoming (L.left link.old) (L.read_faults link.old) }
 {
-    match read_line(line) {
+    match read_head(line) {
         Ok(head) => {
             if head.is_quit() {
                 return Err(Stop::Quit);
@@ -141,7 +142,7 @@ fn answer_unit<E: Executor, C: Clock, L: Gathers>(
     link: &mut L,
     unit: &Unit<'_>,
 ) -> Result<(), Stop>
-    requires { IfSome (whole_of unit.now) (λ whole. (span : List ℕ) × IsSpan line_needs span whole) }
+    requires { IfSome (whole_of unit.now) (λ whole. (span : List ℕ) × IsSpan coll_line_needs span whole) }
     ensures handles { IfSome (whole_of unit.now) (λ whole. HandlesUnit whole
         (stand (E.state exec.old) (C.coming clock.old) (outgoing (L.sent link.old) (L.write_faults link.old) (L.refusals link.old)))
         (stand (E.state exec.new) (C.coming clock.new) (outgoing (L.sent link.new) (L.write_faults link.new) (L.refusals link.new))) result) }
@@ -177,7 +178,7 @@ fn take_front<E: Executor, C: Clock, L: Gathers>(
     let Some((line, count)) = front_line(piece) else {
         return Ok(None);
     };
-    let Ok(head) = read_line(line) else {
+    let Ok(head) = read_head(line) else {
         return Ok(None);
     };
     if head.is_quit() {
@@ -206,7 +207,7 @@ fn take_front<E: Executor, C: Clock, L: Gathers>(
 // Feeds the reader from the front of the piece until a unit is whole, and handles that unit. Tells how many bytes were
 // taken.
 fn feed_unit<E: Executor, C: Clock, L: Gathers>(
-    frames: &mut Frames<KvHeads>,
+    frames: &mut Frames<AllHeads>,
     exec: &mut E,
     clock: &mut C,
     link: &mut L,
@@ -238,7 +239,7 @@ fn feed_unit<E: Executor, C: Clock, L: Gathers>(
 // Takes bytes from the front of the piece until a unit is whole, and handles that unit: where it lies whole in the piece and
 // nothing is held it is read there. Tells how many bytes were taken.
 fn take_unit<E: Executor, C: Clock, L: Gathers>(
-    frames: &mut Frames<KvHeads>,
+    frames: &mut Frames<AllHeads>,
     exec: &mut E,
     clock: &mut C,
     link: &mut L,
@@ -270,7 +271,7 @@ fn take_unit<E: Executor, C: Clock, L: Gathers>(
 /// `Failed` and `NoMemory` come where a text was not sent whole, `LineTooLong` behind a line that is too long, and
 /// `Quit` behind `quit`; the frames are of no use then, and bytes behind that unit are passed over.
 pub fn take_piece<E: Executor, C: Clock, L: Gathers>(
-    frames: &mut Frames<KvHeads>,
+    frames: &mut Frames<AllHeads>,
     exec: &mut E,
     clock: &mut C,
     link: &mut L,

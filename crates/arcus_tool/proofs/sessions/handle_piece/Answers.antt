@@ -1,4 +1,4 @@
-use Rattle.std.proofs.Common.{◌≡◌, ◌≤◌, ◌^◌, ◌∙◌, ◌++◌, sym, ap, subst, length, length-append, arith}
+use Rattle.std.proofs.Common.{◌∙◌, ◌++◌, sym, ap, subst, length, length-append, arith}
 use Rattle.arc_core.specs.Outside.{first_then, incoming}
 use Rattle.arcus_tool.specs.Handling.{Stops}
 use Rattle.arcus_tool.specs.Session.{start_of}

@@ -1,11 +1,9 @@
-use Rattle.std.proofs.Common.{◌≡◌, ◌≤◌, ◌<◌, ◌+◌, ◌^◌, ◌∙◌, ◌++◌, [], sym, ap, subst, take, length, arith}
-use Rattle.std.proofs.lemmas.List.{length-take-le, append-nil}
+use Rattle.std.proofs.Common.{◌∙◌, sym, ap, subst, take, arith}
+use Rattle.std.proofs.lemmas.List.{length-take-le}
 use Rattle.arc_core.specs.Outside.{Pulled, outgoing, incoming, first_then}
 use Rattle.arcus_tool.specs.Handling.{stand}
-use Rattle.arcus_tool.specs.Session.{start_of, IsOver}
-use Rattle.arcus_tool.proofs.Histories.{only_of_none}
+use Rattle.arcus_tool.specs.Session.{IsOver}
 use Rattle.arcus_tool.proofs.Flushing.{all_out, since_start}
-use Rattle.arcus_tool.proofs.Going.{went_by}
 use Rattle.arcus_tool.proofs.Ending.{came_to, over_at_end, over_at_read_fault, over_before_a_pull, holds_rest}
 use Rattle.arcus_tool.proofs.sessions.pull_once.Goals as goal
 

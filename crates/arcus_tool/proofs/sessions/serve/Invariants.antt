@@ -1,4 +1,4 @@
-use Rattle.std.proofs.Common.{◌≡◌, ◌-◌, ◌≤◌, ◌^◌, ℕ, List, [], length}
+use Rattle.std.proofs.Common.{◌≡◌, ◌-◌, ◌≤◌, ◌^◌, ℕ, List, length}
 use Rattle.arc_core.specs.Outside.{incoming, outgoing, then_sent}
 use Rattle.arcus_tool.specs.Handling.{stand, IsBetweenUnits}
 use Rattle.arcus_tool.specs.Session.{outside, RanSoFar}

@@ -19,12 +19,12 @@ returns-else-is_quit-clause-handles g c =
 pub returns-in-Err-Unknown-clause-handles : goal.returns-in-Err-Unknown-clause-handles
 returns-in-Err-Unknown-clause-handles g c =
     let fault = c.in-Err-Unknown in
-    let unknown = c.read_line.ensures.unknown.0 (fault.is ∙ ap Err fault.field-0-is) in
+    let unknown = c.read_head.ensures.unknown.0 (fault.is ∙ ap Err fault.field-0-is) in
     handles_fault _ _ c.args.line.now c.args.block.now word.Unknown c.send_word.result (inl (fault.ensures.needs, inl (unknown, refl))) fault.ensures.silent (λ head spelled. no_head fault.field-0 head (fault.ensures.only head spelled)) refl refl c.send_word.ensures.sends
 
 pub returns-in-Err-BadFormat-clause-handles : goal.returns-in-Err-BadFormat-clause-handles
 returns-in-Err-BadFormat-clause-handles g c =
     let fault = c.in-Err-BadFormat in
     let sends = c.send_word-in-Err-BadFormat in
-    let bad = c.read_line.ensures.bad_format.0 (fault.is ∙ ap Err fault.field-0-is) in
+    let bad = c.read_head.ensures.bad_format.0 (fault.is ∙ ap Err fault.field-0-is) in
     handles_fault _ _ c.args.line.now c.args.block.now word.BadFormat sends.result (inl (fault.ensures.needs, inr (bad, refl))) fault.ensures.silent (λ head spelled. no_head fault.field-0 head (fault.ensures.only head spelled)) refl refl sends.ensures.sends

@@ -3,7 +3,7 @@ use Rattle.std.specs.Prelude.{IfSome}
 use Rattle.arc_core.specs.declared.replies.Word.TheVariants as word
 use Rattle.arc_core.specs.Framing.{Whole, IsSpan}
 use Rattle.arc_core.specs.Framing as whole
-use Rattle.arc_core.specs.Grammar.{line_needs}
+use Rattle.arc_core.specs.CollectionLines.{coll_line_needs}
 use Rattle.frame_reader.specs.Units.{whole_of}
 use Rattle.arcus_tool.proofs.Telling.{line_handled, block_handled, answer_handled, long_handled}
 use Rattle.arcus_tool.proofs.units.answer_unit.Goals as goal
@@ -19,13 +19,13 @@ no_memory_goes_on text e = cc
 
 pub returns-in-Line-clause-handles : goal.returns-in-Line-clause-handles
 returns-in-Line-clause-handles g c =
-    let is = subst (λ u. IfSome (whole_of u) (λ unit. (span : List ℕ) × IsSpan line_needs span unit)) c.in-Line.is c.requires in
+    let is = subst (λ u. IfSome (whole_of u) (λ unit. (span : List ℕ) × IsSpan coll_line_needs span unit)) c.in-Line.is c.requires in
     rw c.in-Line.is (line_handled _ _ c.in-Line.line.now c.answer_line.result is.1.1 c.answer_line.ensures.handles)
 
 pub returns-in-LineWithBlock-clause-handles : goal.returns-in-LineWithBlock-clause-handles
 returns-in-LineWithBlock-clause-handles g c =
     let unit = c.in-LineWithBlock in
-    let is = subst (λ u. IfSome (whole_of u) (λ unit. (span : List ℕ) × IsSpan line_needs span unit)) unit.is c.requires in
+    let is = subst (λ u. IfSome (whole_of u) (λ unit. (span : List ℕ) × IsSpan coll_line_needs span unit)) unit.is c.requires in
     rw unit.is (block_handled _ _ unit.line.now unit.block.now is.1.0 is.1.1 c.answer_line-in-LineWithBlock.result is.1.3.asks c.answer_line-in-LineWithBlock.ensures.handles)
 
 pub returns-in-BadChunk-clause-handles : goal.returns-in-BadChunk-clause-handles

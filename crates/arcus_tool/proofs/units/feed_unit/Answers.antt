@@ -1,4 +1,4 @@
-use Rattle.std.proofs.Common.{◌<◌, ◌-◌, [], length, drop, length-drop, arith}
+use Rattle.std.proofs.Common.{◌<◌, [], length, drop, length-drop, arith}
 use Rattle.frame_reader.specs.Units.{whole_of}
 use Rattle.arcus_tool.proofs.Going.{goes_on_fed, told_next, stops_next, not_waiting}
 use Rattle.arcus_tool.proofs.units.feed_unit.Goals as goal

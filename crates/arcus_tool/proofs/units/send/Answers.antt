@@ -1,4 +1,4 @@
-use Rattle.std.proofs.Common.{◌≡◌, sym, ap, ◌∙◌, []}
+use Rattle.std.proofs.Common.{sym, ap, ◌∙◌, []}
 use Rattle.std.specs.Prelude.{if◌then◌else◌}
 use Rattle.arc_core.specs.Outside.{outgoing, sent_more}
 use Rattle.arc_core.specs.ReplyText.{reply_text}

@@ -1,5 +1,5 @@
 use Rattle.arc_core.specs.ReplyText.{reply_text}
-use Rattle.arcus_tool.proofs.Sending.{sends_whole, sends_failed, sends_refused, never_again}
+use Rattle.arcus_tool.proofs.Sending.{sends_whole, sends_failed, sends_refused}
 use Rattle.arcus_tool.proofs.units.send_long.Goals as goal
 
 pub returns-in-Done-clause-sends : goal.returns-in-Done-clause-sends

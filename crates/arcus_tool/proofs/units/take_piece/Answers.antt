@@ -1,4 +1,4 @@
-use Rattle.std.proofs.Common.{◌≡◌, ◌≤◌, ◌-◌, ◌∙◌, subst, length, drop, length-drop, arith}
+use Rattle.std.proofs.Common.{◌∙◌, subst, length-drop, arith}
 use Rattle.std.proofs.lemmas.Result.{err_from_is_err_and}
 use Rattle.arcus_tool.specs.Handling.{GoesOn}
 use Rattle.arcus_tool.proofs.Sending.{take_rest, is_empty_list}

@@ -1,4 +1,4 @@
-use Rattle.std.proofs.Common.{◌≡◌, ◌≤◌, ◌<◌, ◌-◌, ◌∙◌, [], sym, subst, length, drop, length-drop, arith}
+use Rattle.std.proofs.Common.{◌≡◌, ◌<◌, [], sym, subst, length, drop, length-drop, arith}
 use Rattle.arcus_tool.specs.Handling.{GoesOn}
 use Rattle.arcus_tool.proofs.Fronts.{front_some, front_none}
 use Rattle.arcus_tool.proofs.Sending.{none_of_length}
