@@ -1,10 +1,11 @@
 //! Input that is wrong: what is answered, and that nothing of what follows is lost.
 
 use crate::harness::{
-    BYTE_BY_BYTE, DEFAULT, ONE_MIB, add_text, bytes_of, expect, expect_bytes, run_on,
+    BYTE_BY_BYTE, DEFAULT, ONE_MIB, add_text, bytes_of, expect, expect_bytes, expect_rows, run_on,
 };
 use arcus_tool::Status;
 use std::alloc::{AllocError, Global};
+use std::process::Abort;
 use std::test::Fail;
 
 // Lines whose first word is a command, and whose further words do not spell it: words that are missing or too many, and
@@ -139,8 +140,124 @@ const BAD_FORMAT: [&str; 117] = [
     "quit noreply",
 ];
 
-// Lines without a word, and lines whose first word is no command.
-const UNKNOWN: [&str; 14] = [
+// The same for commands on lists.
+const BAD_LIST_FORMAT: [&str; 44] = [
+    // lop create: <key> <flags> <exptime> <maxcount> [<action>] [unreadable] [noreply]
+    "lop create",
+    "lop create l",
+    "lop create l 0 0",
+    "lop create l 0 0 noreply",
+    "lop create l 4294967296 0 0",
+    "lop create l 0 4294967296 0",
+    "lop create l 0 -2147483649 0",
+    "lop create l 0 0 4294967296",
+    "lop create l 0 0 -1",
+    "lop create l 0 0 0 smallest_trim",
+    "lop create l 0 0 0 Error",
+    "lop create l 0 0 0 unreadable error",
+    "lop create l 0 0 0 error error",
+    "lop create l 0 0 0 noreply unreadable",
+    "lop create l 0 0 0 pipe",
+    // lop insert: <key> <index> <bytes> [create ..] [noreply]
+    "lop insert",
+    "lop insert l 0",
+    "lop insert l x 1",
+    "lop insert l 2147483648 1",
+    "lop insert l -2147483649 1",
+    "lop insert l 0..1 1",
+    "lop insert l 0 2147483648",
+    "lop insert l 0 -1",
+    "lop insert l 0 1 error",
+    "lop insert l 0 1 create",
+    "lop insert l 0 1 create 0 0",
+    "lop insert l 0 1 create 4294967296 0 0",
+    "lop insert l 0 1 create 0 0 0 largest_trim",
+    "lop insert l 0 1 noreply create 0 0 0",
+    // lop delete: <key> <index or range> [drop] [noreply]
+    "lop delete l",
+    "lop delete l 0..",
+    "lop delete l ..1",
+    "lop delete l 0...1",
+    "lop delete l 0.1",
+    "lop delete l 0 1",
+    "lop delete l 0..2147483648",
+    "lop delete l -2147483649..0",
+    "lop delete l 0 delete",
+    "lop delete l 0 noreply drop",
+    // lop get: <key> <index or range> [delete|drop]
+    "lop get l",
+    "lop get l -",
+    "lop get l 2147483648",
+    "lop get l 0 drop delete",
+    "lop get l 0 drop noreply",
+];
+
+// The same for commands on sets and maps.
+const BAD_SET_OR_MAP_FORMAT: [&str; 42] = [
+    "sop create s 0 0 0 tail_trim",
+    // sop insert: <key> <bytes> [create ..] [noreply]
+    "sop insert s",
+    "sop insert s x",
+    "sop insert s 2147483648",
+    "sop insert s 1 1",
+    "sop insert s 1 create 0 0 0 head_trim",
+    "sop insert {16001s} 1",
+    // sop delete: <key> <bytes> [drop] [noreply]
+    "sop delete s",
+    "sop delete s 1 delete",
+    "sop delete s 1 create 0 0 0",
+    // sop exist: <key> <bytes>
+    "sop exist s",
+    "sop exist s 1 drop",
+    "sop exist s 1 noreply",
+    // sop get: <key> <count> [delete|drop]
+    "sop get s",
+    "sop get s -1",
+    "sop get s 4294967296",
+    "sop get s 0..1",
+    "sop get s 1 noreply",
+    "mop create m 0 0 0 smallest_trim",
+    // mop insert, mop upsert: <key> <field> <bytes> [create ..] [noreply], with fields of 250 bytes at most
+    "mop insert m f",
+    "mop insert m f 2147483648",
+    "mop insert m {251f} 1",
+    "mop insert m f\tg 1",
+    "mop insert m f 1 create 0 0 0 tail_trim",
+    "mop upsert m f",
+    "mop upsert m {251f} 1",
+    "mop upsert m f 1 drop",
+    // mop update: <key> <field> <bytes> [noreply]
+    "mop update m f",
+    "mop update m {251f} 1",
+    "mop update m f 1 create 0 0 0",
+    // mop delete: <key> <lenfields> <numfields> [drop] [noreply], with 1 to 50,000 fields, or 0 0
+    "mop delete m 1",
+    "mop delete m 0 1",
+    "mop delete m 1 0",
+    "mop delete m 2147483648 1",
+    "mop delete m 100001 50001",
+    "mop delete m 1 1 delete",
+    // mop get: <key> <lenfields> <numfields> [delete|drop]
+    "mop get m",
+    "mop get m 0",
+    "mop get m 0 1",
+    "mop get m 1 0",
+    "mop get m 100001 50001",
+    "mop get m 1 1 noreply",
+];
+
+// Changes that end with `pipe`.
+const PIPED: [&str; 6] = [
+    "lop insert l 0 1 pipe",
+    "lop delete l 0 drop pipe",
+    "sop exist s 1 pipe",
+    "sop insert s 1 create 0 0 0 pipe",
+    "mop upsert m f 1 pipe",
+    "mop delete m 0 0 pipe",
+];
+
+// Lines without a word, and lines whose first word is no command, or of which the first two are none.
+const UNKNOWN: [&str; 20] = [
     "",
     "   ",
     "\t",
@@ -152,24 +269,46 @@ const UNKNOWN: [&str; 14] = [
     "noreply",
     "flush_al",
     "stats",
-    "lop get l 0",
     "bop",
     "set\ta 0 0 1",
+    "lop",
+    "lop move l 0",
+    "lop GET l 0",
+    "sop update s 1",
+    "mop exist m 1",
+    "bop get b 0",
+    "insert lop l 0 1",
 ];
 
-// Each bad line has its answer, and the line behind it is read as a line: no block is taken.
+// Each of the lines has this answer, and the line behind it is read as a line: no block is taken.
+fn expect_refused(
+    rt: &impl Abort,
+    alloc: Global,
+    lines: &[&str],
+    answer: &str,
+) -> Result<(), AllocError> {
+    for line in lines {
+        let input = format!(in alloc; "{line}|version|")?;
+        let output = format!(in alloc; "{answer}|VERSION arcus-profile-2|")?;
+        expect(rt, alloc, DEFAULT, &input, &output, Status::Done)?;
+    }
+    Ok(())
+}
+
 #[test]
 fn bad_lines_are_answered(rt: HostRuntime) -> Result<(), Fail> {
-    for line in BAD_FORMAT {
-        let input = format!(in rt.alloc(); "{line}|version|")?;
-        let output = "CLIENT_ERROR bad command line format|VERSION arcus-profile-2|";
-        expect(&rt, rt.alloc(), DEFAULT, &input, output, Status::Done)?;
-    }
-    for line in UNKNOWN {
-        let input = format!(in rt.alloc(); "{line}|version|")?;
-        let output = "ERROR unknown command|VERSION arcus-profile-2|";
-        expect(&rt, rt.alloc(), DEFAULT, &input, output, Status::Done)?;
-    }
+    let answer = "CLIENT_ERROR bad command line format";
+    expect_refused(&rt, rt.alloc(), &BAD_FORMAT, answer)?;
+    expect_refused(&rt, rt.alloc(), &UNKNOWN, "ERROR unknown command")?;
+    Ok(())
+}
+
+#[test]
+fn bad_lines_on_collections_are_answered(rt: HostRuntime) -> Result<(), Fail> {
+    let answer = "CLIENT_ERROR bad command line format";
+    expect_refused(&rt, rt.alloc(), &BAD_LIST_FORMAT, answer)?;
+    expect_refused(&rt, rt.alloc(), &BAD_SET_OR_MAP_FORMAT, answer)?;
+    expect_refused(&rt, rt.alloc(), &PIPED, answer)?;
     Ok(())
 }
 
@@ -358,8 +497,124 @@ fn bad_input_loses_nothing(rt: HostRuntime) -> Result<(), Fail> {
     Ok(())
 }
 
+// The same on lists, sets and maps.
+const ANSWERED_ON_COLLECTIONS: [(&str, &str); 24] = [
+    // Numbers at their limits.
+    (
+        "lop create l 4294967295 4294967295 4294967295|lop insert l 0 1|x|lop get l -2147483648..2147483647|",
+        "CREATED|STORED|VALUE 4294967295 1|1 x|END|",
+    ),
+    (
+        "lop create l 0 -2147483648 0 head_trim unreadable|lop get l 0|",
+        "CREATED|NOT_FOUND|",
+    ),
+    (
+        "lop create l 0 0 0|lop insert l 2147483647 1|x|lop insert l -2147483648 1|x|lop get l 2147483647|lop delete l -2147483648|",
+        "CREATED|OUT_OF_RANGE|OUT_OF_RANGE|NOT_FOUND_ELEMENT|NOT_FOUND_ELEMENT|",
+    ),
+    (
+        "lop insert l -0 01 create 00 -0 00|x|lop get l 00..-01|",
+        "CREATED_STORED|VALUE 0 1|1 x|END|",
+    ),
+    (
+        "sop insert s 1 create 0 0 1|x|sop get s 4294967295|",
+        "CREATED_STORED|VALUE 0 1|1 x|END|",
+    ),
+    // A field has 250 bytes at most, on its line and in its block.
+    (
+        "mop insert m {250f} 1 create 0 0 0|x|mop get m 250 1|{250f}|",
+        "CREATED_STORED|VALUE 0 1|{250f} 1 x|END|",
+    ),
+    (
+        "mop get m 251 1|{251f}|mop delete m 251 1|{251f}|version|",
+        "CLIENT_ERROR bad data chunk|CLIENT_ERROR bad data chunk|VERSION arcus-profile-2|",
+    ),
+    // A block of fields with a field too few or too many, with a bad byte, without a field, and too long by one.
+    (
+        "mop get m 3 3|f g|mop get m 3 1|f g|mop delete m 3 3|f g|mop delete m 3 1 drop|f g|version|",
+        "CLIENT_ERROR bad data chunk|CLIENT_ERROR bad data chunk|CLIENT_ERROR bad data chunk|CLIENT_ERROR bad data chunk|VERSION arcus-profile-2|",
+    ),
+    (
+        "mop get m 3 2|f\tg|mop get m 3 1|   |mop get m 3 2|f gh|version|",
+        "CLIENT_ERROR bad data chunk|CLIENT_ERROR bad data chunk|CLIENT_ERROR bad data chunk|ERROR unknown command|VERSION arcus-profile-2|",
+    ),
+    // It has 1,048,576 bytes at most.
+    (
+        "mop get m 1048576 1|{1048575 }f|mop get m 1048577 1|{1048576 }f|version|",
+        "NOT_FOUND|CLIENT_ERROR too large value|VERSION arcus-profile-2|",
+    ),
+    // An element has 32,768 bytes at most. One that is too large is passed over, whatever its bytes are.
+    (
+        "lop create l 0 0 0|lop insert l 0 32768|{32768x}|lop insert l 0 32769|{32769y}zzlop get l 0..1|",
+        "CREATED|STORED|CLIENT_ERROR too large value|VALUE 0 1|32768 {32768x}|END|",
+    ),
+    (
+        "sop insert s 32769|{32769x}|sop exist s 32769|{32769x}|sop delete s 32769 drop|{32769x}|version|",
+        "CLIENT_ERROR too large value|CLIENT_ERROR too large value|CLIENT_ERROR too large value|VERSION arcus-profile-2|",
+    ),
+    (
+        "mop insert m f 32769|{32769x}|mop update m f 32769|{32769x}|mop upsert m f 32769|{32769x}|version|",
+        "CLIENT_ERROR too large value|CLIENT_ERROR too large value|CLIENT_ERROR too large value|VERSION arcus-profile-2|",
+    ),
+    (
+        "mop upsert m f 32768 create 0 0 0|{32768x}|mop update m f 32768|{32768y}|mop get m 1 1 drop|f|",
+        "CREATED_STORED|UPDATED|VALUE 0 1|f 32768 {32768y}|DELETED_DROPPED|",
+    ),
+    // An element whose block does not end where it should.
+    (
+        "lop insert l 0 1 create 0 0 0|xy|sop insert s 2 create 0 0 0|x|lop get l 0|sop get s 0|",
+        "CLIENT_ERROR bad data chunk|ERROR unknown command|CLIENT_ERROR bad data chunk|ERROR unknown command|NOT_FOUND|",
+    ),
+    // Behind a line that is no request a block is read as lines.
+    (
+        "lop insert l 0 1 create 0 0|x|lop get l 0|",
+        "CLIENT_ERROR bad command line format|ERROR unknown command|NOT_FOUND|",
+    ),
+    (
+        "sop insert s 1 pipe|version|mop get m 0 1|f|",
+        "CLIENT_ERROR bad command line format|VERSION arcus-profile-2|CLIENT_ERROR bad command line format|ERROR unknown command|",
+    ),
+    // `0 0` has no block.
+    (
+        "mop get m 0 0|version|mop delete m 00 00 drop|version|",
+        "NOT_FOUND|VERSION arcus-profile-2|NOT_FOUND|VERSION arcus-profile-2|",
+    ),
+    // A head with noreply has no text, whatever happens to it.
+    (
+        "lop create l 0 0 0 error unreadable noreply|lop insert l 0 1 noreply|a|lop delete l 5 noreply|lop get l 0|lop delete l 0 drop noreply|lop get l 0|",
+        "UNREADABLE|NOT_FOUND|",
+    ),
+    (
+        "sop create s 0 0 0 noreply|sop insert s 1 create 0 0 0 noreply|a|sop delete s 1 noreply|x|sop get s 0|sop delete s 1 drop noreply|a|sop get s 0|",
+        "VALUE 0 1|1 a|END|NOT_FOUND|",
+    ),
+    (
+        "mop insert m f 1 create 0 0 0 noreply|a|mop update m f 1 noreply|b|mop upsert m g 1 noreply|c|mop delete m 1 1 noreply|f|mop delete m 1 2 noreply|g|mop get m 0 0|",
+        "VALUE 0 1|g 1 c|END|",
+    ),
+    (
+        "mop insert m f 32769 noreply|{32769x}|sop insert s 1 create 0 0 0 noreply|xyzversion|sop get s 0|",
+        "VERSION arcus-profile-2|NOT_FOUND|",
+    ),
+    // Words of the grammar as keys and fields.
+    (
+        "lop delete noreply 0|sop insert noreply 1 create 0 0 0|x|mop get noreply 7 1|noreply|sop get noreply 0|",
+        "NOT_FOUND|CREATED_STORED|TYPE_MISMATCH|VALUE 0 1|1 x|END|",
+    ),
+    (
+        "mop insert drop create 6 create 0 0 0|create|mop get drop 6 1 drop|create|",
+        "CREATED_STORED|VALUE 0 1|create 6 create|DELETED_DROPPED|",
+    ),
+];
+
+#[test]
+fn bad_input_on_collections_loses_nothing(rt: HostRuntime) -> Result<(), Fail> {
+    expect_rows(&rt, rt.alloc(), DEFAULT, &ANSWERED_ON_COLLECTIONS)?;
+    Ok(())
+}
+
 // Input that ends within a unit, what is answered before, and how many bytes of the unit came; and lines at the limit.
-const CUT: [(&str, &str, Status); 15] = [
+const CUT: [(&str, &str, Status); 17] = [
     ("quit", "", Status::CutInput(4)),
     ("quit\r", "", Status::CutInput(5)),
     (" ", "", Status::CutInput(1)),
@@ -387,6 +642,13 @@ const CUT: [(&str, &str, Status); 15] = [
         Status::CutInput(200_022),
     ),
     ("mget 2147483647 1000|abc", "", Status::CutInput(25)),
+    // Within an element, and within a block of fields.
+    ("lop insert l 0 3|ab", "", Status::CutInput(20)),
+    (
+        "mop get m 0 0|mop get m 3 2|f",
+        "NOT_FOUND|",
+        Status::CutInput(16),
+    ),
     // A line has 65,536 bytes with its end.
     ("get a{65529 }|get a{65530 }\n", "END|END|", Status::Done),
     (
@@ -415,9 +677,10 @@ fn with_keys(alloc: Global, text: &str, keys: usize) -> Result<Vec<u8>, AllocErr
     Ok(bytes)
 }
 
-// A retrieval names 1,000 keys at most, on its line and in its block; a key that is named twice is found twice.
+// A retrieval names 1,000 keys at most, on its line and in its block; a key that is named twice is found twice. A command
+// on a map names 50,000 fields at most.
 #[test]
-fn retrievals_name_up_to_1000_keys(rt: HostRuntime) -> Result<(), Fail> {
+fn so_many_keys_and_fields_are_named(rt: HostRuntime) -> Result<(), Fail> {
     let alloc = rt.alloc();
     for (text, keys, found, ending) in [
         ("set k 0 0 0||get", 1000, 1000, "END|"),
@@ -431,6 +694,18 @@ fn retrievals_name_up_to_1000_keys(rt: HostRuntime) -> Result<(), Fail> {
         (
             "set k 0 0 0||mget 2000 999|",
             1000,
+            0,
+            "CLIENT_ERROR bad data chunk|",
+        ),
+        (
+            "set k 0 0 0||mop get k 100000 50000|",
+            50_000,
+            0,
+            "TYPE_MISMATCH|",
+        ),
+        (
+            "set k 0 0 0||mop delete k 100000 49999|",
+            50_000,
             0,
             "CLIENT_ERROR bad data chunk|",
         ),

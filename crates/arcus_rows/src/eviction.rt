@@ -3,8 +3,12 @@
 //! An item counts 64 bytes, its key and its value. So under a key of one letter a value of 262,079 bytes counts a quarter
 //! of the limit, one of 524,223 bytes a half, one of 786,367 three quarters, one of 1,048,511 all, and an empty one 65
 //! bytes.
+//!
+//! A collection counts 128 bytes, its key, and 32 with the bytes of the element and of its field for each element. So under
+//! a key of one letter an empty one counts 129 bytes, a list or set of one byte 162, one of 32,768 bytes 32,929, and a map
+//! of a field and a value of one byte each 163.
 
-use crate::harness::{ONE_MIB, Setting, add_text, expect, expect_bytes, run_on};
+use crate::harness::{ONE_MIB, Setting, add_text, expect, expect_bytes, expect_rows, run_on};
 use arcus_tool::Status;
 use std::alloc::{AllocError, Global};
 use std::process::Abort;
@@ -290,5 +294,55 @@ fn expired_items_count_until_they_are_named(rt: HostRuntime) -> Result<(), Fail>
         };
         expect(&rt, rt.alloc(), setting, input, output, Status::Done)?;
     }
+    Ok(())
+}
+
+// In each row the cache is full to its last byte before what it shows.
+const COLLECTIONS: [(&str, &str); 8] = [
+    // A list that grows evicts the oldest item and no more: a, of 500,065 bytes, and not b, of 515,582.
+    (
+        "set a 0 0 500000|{500000x}|set b 0 0 515517|{515517y}|lop insert l 0 32768 create 0 0 0|{32768z}|touch a 0|touch b 0|lop insert l 0 0||touch a 0|touch b 0|lop get l 0|",
+        "STORED|STORED|CREATED_STORED|TOUCHED|TOUCHED|STORED|NOT_FOUND|TOUCHED|VALUE 0 1|0 |END|",
+    ),
+    // A value evicts a list, which was used before a.
+    (
+        "lop insert l 0 32768 create 0 0 0|{32768z}|set a 0 0 1015582|{1015582x}|set b 0 0 0||lop get l 0|touch a 0|",
+        "CREATED_STORED|STORED|STORED|NOT_FOUND|TOUCHED|",
+    ),
+    // A request that the list refuses uses it: a goes.
+    (
+        "lop insert l 0 32768 create 0 0 0|{32768z}|set a 0 0 1015582|{1015582x}|lop delete l 9|set b 0 0 0||lop get l 1|touch a 0|",
+        "CREATED_STORED|STORED|NOT_FOUND_ELEMENT|STORED|NOT_FOUND_ELEMENT|NOT_FOUND|",
+    ),
+    // A sticky set stays, though it was used before a.
+    (
+        "sop insert s 32768 create 0 -1 0|{32768z}|set a 0 0 1015582|{1015582x}|set b 0 0 0||touch a 0|sop exist s 1|x|",
+        "CREATED_STORED|STORED|STORED|NOT_FOUND|NOT_EXIST|",
+    ),
+    // A list makes no room for itself. What it trims does: one byte for one, and 33 bytes for 32, but not 32 for 34.
+    (
+        "lop insert l 0 1 create 0 0 1|x|set a 0 -1 1048349|{1048349y}|lop insert l 0 2|zz|lop insert l 0 1|z|lop insert l -1 0||lop insert l 0 2|zz|lop get l 0..9|",
+        "CREATED_STORED|STORED|SERVER_ERROR out of memory|STORED|STORED|SERVER_ERROR out of memory|VALUE 0 1|0 |END|",
+    ),
+    // Room is looked for last: a value that the set holds is told nevertheless.
+    (
+        "sop insert s 1 create 0 0 0|x|set a 0 -1 1048349|{1048349y}|sop insert s 1|y|sop insert s 1|x|sop get s 0|",
+        "CREATED_STORED|STORED|SERVER_ERROR out of memory|ELEMENT_EXISTS|VALUE 0 1|1 x|END|",
+    ),
+    // A value of a map that is replaced by a larger one, by one of its size, and a new field.
+    (
+        "mop insert m f 1 create 0 0 0|x|set a 0 -1 1048348|{1048348y}|mop update m f 2|yy|mop upsert m f 2|yy|mop update m f 1|z|mop upsert m g 0||mop get m 0 0|",
+        "CREATED_STORED|STORED|SERVER_ERROR out of memory|SERVER_ERROR out of memory|UPDATED|SERVER_ERROR out of memory|VALUE 0 1|f 1 z|END|",
+    ),
+    // A set evicts an empty list of its size. One that would be made with an element has no room, and s stays.
+    (
+        "set a 0 -1 1048382|{1048382y}|lop create l 0 0 0|sop create s 0 0 0|lop insert l 0 0 create 0 0 0||sop get s 0|lop get l 0|",
+        "STORED|CREATED|CREATED|SERVER_ERROR out of memory|NOT_FOUND_ELEMENT|NOT_FOUND|",
+    ),
+];
+
+#[test]
+fn collections_are_items_like_others(rt: HostRuntime) -> Result<(), Fail> {
+    expect_rows(&rt, rt.alloc(), ONE_MIB, &COLLECTIONS)?;
     Ok(())
 }

@@ -127,6 +127,35 @@ pub(crate) fn expect(
     Ok(())
 }
 
+/// Runs the program for each of these rows anew: what is sent, and what is answered. Each session comes to its end.
+pub(crate) fn expect_rows(
+    rt: &impl Abort,
+    alloc: Global,
+    setting: Setting<'_>,
+    rows: &[(&str, &str)],
+) -> Result<(), AllocError> {
+    for (input, output) in rows {
+        expect(rt, alloc, setting, input, output, Status::Done)?;
+    }
+    Ok(())
+}
+
+/// Runs one session in which these commands come one behind another, each with its answers.
+pub(crate) fn converse(
+    rt: &impl Abort,
+    alloc: Global,
+    setting: Setting<'_>,
+    commands: &[(&str, &str)],
+) -> Result<(), AllocError> {
+    let mut input = String::new(alloc);
+    let mut output = String::new(alloc);
+    for (typed, answer) in commands {
+        input.push_str(typed)?;
+        output.push_str(answer)?;
+    }
+    expect(rt, alloc, setting, &input, &output, Status::Done)
+}
+
 /// Asks that the row with this input had the wanted output.
 pub(crate) fn expect_bytes(rt: &impl Abort, input: &str, output: &[u8], wanted: &[u8]) {
     if output != wanted {

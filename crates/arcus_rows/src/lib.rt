@@ -17,8 +17,14 @@ mod eviction;
 #[cfg(test)]
 mod harness;
 #[cfg(test)]
+mod lists;
+#[cfg(test)]
 mod long_session;
+#[cfg(test)]
+mod maps;
 #[cfg(test)]
 mod pushes;
 #[cfg(test)]
 mod rows;
+#[cfg(test)]
+mod sets;

@@ -1,7 +1,6 @@
 //! One session with every command, and with what goes wrong when people type.
 
-use crate::harness::{BYTE_BY_BYTE, DEFAULT, expect};
-use arcus_tool::Status;
+use crate::harness::{BYTE_BY_BYTE, DEFAULT, converse};
 use std::test::Fail;
 
 // What is typed, and what comes back.
@@ -62,15 +61,8 @@ const CONVERSATION: [(&str, &str); 35] = [
 
 #[test]
 fn every_command_and_what_goes_wrong(rt: HostRuntime) -> Result<(), Fail> {
-    let alloc = rt.alloc();
-    let mut input = String::new(alloc);
-    let mut output = String::new(alloc);
-    for (typed, answer) in CONVERSATION {
-        input.push_str(typed)?;
-        output.push_str(answer)?;
-    }
     for setting in [DEFAULT, BYTE_BY_BYTE] {
-        expect(&rt, alloc, setting, &input, &output, Status::Done)?;
+        converse(&rt, rt.alloc(), setting, &CONVERSATION)?;
     }
     Ok(())
 }

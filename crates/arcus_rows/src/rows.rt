@@ -1,6 +1,8 @@
 //! Rows of the protocol: what a client sends, what it gets, and how the program ends.
 
-use crate::harness::{AT_ONCE, BYTE_BY_BYTE, DEFAULT, ONE_MIB, Setting, expect};
+use crate::harness::{
+    AT_ONCE, BYTE_BY_BYTE, DEFAULT, ONE_MIB, Setting, converse, expect, expect_rows,
+};
 use arcus_tool::Status;
 use std::test::Fail;
 
@@ -22,7 +24,7 @@ const ROWS: [(&str, &str); 16] = [
         "set a 0 0 1|x|set b 0 0 1|y|get b a c|",
         "STORED|STORED|VALUE b 0 1|y|VALUE a 0 1|x|END|",
     ),
-    ("lop get l 0|", "ERROR unknown command|"),
+    ("bop get b 0|", "ERROR unknown command|"),
     ("touch a 0|", "NOT_FOUND|"),
     // A second value takes the place of the first.
     (
@@ -58,6 +60,105 @@ const ROWS: [(&str, &str); 16] = [
     ),
 ];
 
+// Lists, sets and maps.
+const ROWS_OF_COLLECTIONS: [(&str, &str); 9] = [
+    // A list that trims its tail: it is read at its ends and past them, and then filled from both.
+    (
+        "lop create l 0 0 5|lop insert l -1 1|a|lop insert l -1 1|b|lop insert l -1 1|c|lop insert l -1 1|d|lop insert l -1 1|e|lop get l -1..-3|lop get l 3..9|lop insert l 6 1|f|lop insert l 0 1|f|lop insert l 5 1|g|lop get l 0..-1|",
+        "CREATED|STORED|STORED|STORED|STORED|STORED|VALUE 0 3|1 e|1 d|1 c|END|VALUE 0 2|1 d|1 e|END|OUT_OF_RANGE|STORED|OUT_OF_RANGE|VALUE 0 5|1 f|1 a|1 b|1 c|1 d|END|",
+    ),
+    // A list that refuses what is too much.
+    (
+        "lop create l 0 0 2 error|lop insert l -1 1|a|lop insert l -1 1|b|lop insert l 0 1|c|",
+        "CREATED|STORED|STORED|OVERFLOWED|",
+    ),
+    // A set that is made by its first element, and goes with its last.
+    (
+        "sop insert s 1 create 0 0 2|a|sop insert s 1|b|sop insert s 1|a|sop insert s 1|c|sop exist s 1|b|sop get s 1 delete|sop get s 0 drop|sop get s 0|",
+        "CREATED_STORED|STORED|ELEMENT_EXISTS|OVERFLOWED|EXIST|VALUE 0 1|1 a|DELETED|VALUE 0 1|1 b|DELETED_DROPPED|NOT_FOUND|",
+    ),
+    // A map whose fields are read by name and all together.
+    (
+        "mop insert m f1 1 create 0 0 0|a|mop insert m f2 1|b|mop update m f1 2|cc|mop get m 5 2|f2 f1|mop get m 0 0|",
+        "CREATED_STORED|STORED|UPDATED|VALUE 0 2|f2 1 b|f1 2 cc|END|VALUE 0 2|f1 2 cc|f2 1 b|END|",
+    ),
+    // A field that is named twice counts once.
+    (
+        "mop insert m f 1 create 0 0 0|a|mop insert m g 1|b|mop get m 5 3|g f g|",
+        "CREATED_STORED|STORED|VALUE 0 2|g 1 b|f 1 a|END|",
+    ),
+    // An upsert puts a field or replaces its value.
+    (
+        "mop upsert m f1 1 create 0 0 0|a|mop upsert m f1 2|bb|mop upsert m f2 1|c|mop get m 0 0|version|",
+        "CREATED_STORED|REPLACED|STORED|VALUE 0 2|f1 2 bb|f2 1 c|END|VERSION arcus-profile-2|",
+    ),
+    // Key-value commands on a list.
+    (
+        "lop create l 0 0 0|set l 0 0 1|x|get l|incr l 1|delete l|",
+        "CREATED|TYPE_MISMATCH|END|TYPE_MISMATCH|DELETED|",
+    ),
+    // An element has 32,768 bytes at most.
+    (
+        "sop insert s 32769 create 0 0 0|{32769x}|sop get s 0|",
+        "CLIENT_ERROR too large value|NOT_FOUND|",
+    ),
+    (
+        "sop insert s 32768 create 0 0 0|{32768x}|sop get s 0|",
+        "CREATED_STORED|VALUE 0 1|32768 {32768x}|END|",
+    ),
+];
+
+// What commands for items of any kind do with collections, and those for one kind with the others.
+const OTHER_KINDS: [(&str, &str); 12] = [
+    (
+        "lop create l 5 0 0|sop create s 6 0 0|mop create m 7 0 0|",
+        "CREATED|CREATED|CREATED|",
+    ),
+    (
+        "set l 0 0 1|x|add s 0 0 1|x|replace m 0 0 1|x|",
+        "TYPE_MISMATCH|TYPE_MISMATCH|TYPE_MISMATCH|",
+    ),
+    (
+        "append s 0 0 1|x|prepend m 0 0 1|x|cas l 0 0 1 0|x|",
+        "TYPE_MISMATCH|TYPE_MISMATCH|TYPE_MISMATCH|",
+    ),
+    (
+        "incr s 1|decr m 1 0 0 5|incr l 0|",
+        "TYPE_MISMATCH|TYPE_MISMATCH|TYPE_MISMATCH|",
+    ),
+    // Retrievals pass over them, and making them has no cas unique.
+    (
+        "set k 1 0 1|x|get l k s m|mget 7 4|m l k s|gets s k m|",
+        "STORED|VALUE k 1 1|x|END|VALUE k 1 1|x|END|VALUE k 1 1 1|x|END|",
+    ),
+    (
+        "lop create k 0 0 0|sop create l 0 0 0|mop create m 0 0 0|",
+        "EXISTS|EXISTS|EXISTS|",
+    ),
+    (
+        "sop insert m 1 create 0 0 0|x|mop insert s f 1 create 0 0 0|x|lop insert m 0 1 create 0 0 0|x|",
+        "TYPE_MISMATCH|TYPE_MISMATCH|TYPE_MISMATCH|",
+    ),
+    (
+        "lop get s 0|sop get m 1|mop get l 0 0|",
+        "TYPE_MISMATCH|TYPE_MISMATCH|TYPE_MISMATCH|",
+    ),
+    (
+        "touch l -1|touch s 0|touch m 100|touch n 0|",
+        "TOUCHED|TOUCHED|TOUCHED|NOT_FOUND|",
+    ),
+    (
+        "delete s|delete s|sop create s 0 0 0|",
+        "DELETED|NOT_FOUND|CREATED|",
+    ),
+    // The sticky list goes too.
+    ("sop insert s 1|x|flush_all|", "STORED|OK|"),
+    (
+        "lop get l 0|sop get s 0|mop get m 0 0|get k|",
+        "NOT_FOUND|NOT_FOUND|NOT_FOUND|END|",
+    ),
+];
+
 // On a cache of 1 MiB.
 const ROWS_OF_ONE_MIB: [(&str, &str); 3] = [
     // The cache is full to its last byte with a and b. What was used last stays, and b is evicted.
@@ -78,7 +179,7 @@ const ROWS_OF_ONE_MIB: [(&str, &str); 3] = [
 ];
 
 // The words, what is sent and what is answered, on a cache of 1 MiB with a share for sticky items.
-const ROWS_OF_SHARES: [(&[&str], &str, &str); 4] = [
+const ROWS_OF_SHARES: [(&[&str], &str, &str); 6] = [
     // Half of the limit: a takes 500,065 of 524,288 bytes, and b fits with 24,223 and not with 24,224. A touch that would
     // pass the share is refused, and one that leaves it makes room.
     (
@@ -104,6 +205,19 @@ const ROWS_OF_SHARES: [(&[&str], &str, &str); 4] = [
         "set a 0 0 600000|{600000x}|set b 0 -1 524224|{524224y}|set b 0 -1 100000|{100000y}|get a|set b 0 -1 500000|{500000y}|get a|",
         "STORED|SERVER_ERROR out of memory|STORED|VALUE a 0 600000|{600000x}|END|STORED|END|",
     ),
+    // Collections that are made sticky, or get to be.
+    (
+        &["session", "--limit", "1", "--sticky", "0"],
+        "lop create l 0 -1 0|lop create l 0 0 0|touch l -1|sop insert s 1 create 0 -1 0|x|lop get l 0|sop get s 0|",
+        "SERVER_ERROR out of memory|CREATED|SERVER_ERROR out of memory|SERVER_ERROR out of memory|NOT_FOUND_ELEMENT|NOT_FOUND|",
+    ),
+    // The list of 162 bytes and a of 524,126 fill the share. The list grows where it is no longer sticky, and is then too
+    // large to be sticky again.
+    (
+        &["session", "--limit", "1", "--sticky", "50"],
+        "lop insert l 0 1 create 0 -1 0|x|set a 0 -1 524061|{524061y}|lop insert l 0 0||touch l 0|lop insert l 0 0||touch l -1|lop get l 0..1|",
+        "CREATED_STORED|STORED|SERVER_ERROR out of memory|TOUCHED|STORED|SERVER_ERROR out of memory|VALUE 0 2|0 |1 x|END|",
+    ),
 ];
 
 #[test]
@@ -125,6 +239,15 @@ fn each_row_is_answered(rt: HostRuntime) -> Result<(), Fail> {
     for (input, output) in ROWS_OF_ONE_MIB {
         expect(&rt, rt.alloc(), ONE_MIB, input, output, Status::Done)?;
     }
+    Ok(())
+}
+
+#[test]
+fn each_row_on_a_collection_is_answered(rt: HostRuntime) -> Result<(), Fail> {
+    for setting in [DEFAULT, BYTE_BY_BYTE] {
+        expect_rows(&rt, rt.alloc(), setting, &ROWS_OF_COLLECTIONS)?;
+    }
+    converse(&rt, rt.alloc(), DEFAULT, &OTHER_KINDS)?;
     Ok(())
 }
 
@@ -245,7 +368,7 @@ fn values_have_a_limit(rt: HostRuntime) -> Result<(), Fail> {
 }
 
 // The seconds at which the requests come, what is asked then, and what is answered.
-const TIMES: [(&[u32], &str, &str); 9] = [
+const TIMES: [(&[u32], &str, &str); 15] = [
     // So many seconds from now, 30 days at most.
     (&[1000, 1010], "set a 0 10 1|x|get a|", "STORED|END|"),
     (
@@ -289,6 +412,41 @@ const TIMES: [(&[u32], &str, &str); 9] = [
         &[1000, 1009, 1010, 1010, 1010],
         "set n 5 10 1|7|incr n 1|incr n 1|add n 6 0 1|3|get n|",
         "STORED|8|NOT_FOUND|STORED|VALUE n 6 1|3|END|",
+    ),
+    // A list, whose elements do not change when it expires.
+    (
+        &[1000, 1009, 1009, 1010],
+        "lop create l 0 10 0|lop insert l 0 1|x|lop get l 0|lop get l 0|",
+        "CREATED|STORED|VALUE 0 1|1 x|END|NOT_FOUND|",
+    ),
+    // touch gives a collection a new expiry, and says nothing of one that has expired.
+    (
+        &[1000, 1005, 1010, 1014, 1015],
+        "sop insert s 1 create 0 10 0|a|touch s 10|sop exist s 1|a|sop get s 0|touch s 0|",
+        "CREATED_STORED|TOUCHED|EXIST|VALUE 0 1|1 a|END|NOT_FOUND|",
+    ),
+    // A map that has expired is none: it is made anew, with the element that the insert brings alone.
+    (
+        &[1000, 1001, 1010, 1010],
+        "mop insert m f 1 create 0 10 0|a|mop insert m g 1|b|mop insert m f 1 create 3 0 0|c|mop get m 0 0|",
+        "CREATED_STORED|STORED|CREATED_STORED|VALUE 3 1|f 1 c|END|",
+    ),
+    // One that expires at once.
+    (
+        &[0],
+        "lop insert l 0 1 create 0 -2 0|x|lop get l 0|lop create l 0 -2 0|lop create l 0 0 0|lop get l 0|",
+        "CREATED_STORED|NOT_FOUND|CREATED|CREATED|NOT_FOUND_ELEMENT|",
+    ),
+    // Where an item has expired, one of another kind may be stored.
+    (
+        &[1000, 1010],
+        "set a 0 10 1|x|sop insert a 1 create 0 0 0|y|sop get a 1|",
+        "STORED|CREATED_STORED|VALUE 0 1|1 y|END|",
+    ),
+    (
+        &[1000, 1009, 1010],
+        "lop create a 0 10 0|set a 0 0 1|x|set a 0 0 1|x|get a|",
+        "CREATED|TYPE_MISMATCH|STORED|VALUE a 0 1|x|END|",
     ),
 ];
 
