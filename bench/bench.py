@@ -2,7 +2,7 @@
 """Measures `arcus session`, beside memcached and redis on loopback where they are installed.
 
 50,000 `set` of 100-byte values under as many keys of 14 bytes, and then a `get` of each key in mixed order; and the
-instructions of requests of one kind each. See README.md in this folder for what is printed and how to read it.
+instructions of requests of one kind each, and of sessions on lists, sets and maps. See README.md in this folder for what is printed and how to read it.
 
 With words it counts the instructions of these programs instead, each run as `PROGRAM session`.
 """
@@ -28,6 +28,7 @@ REQUESTS = 2 * KEYS
 RUNS = 5
 LARGE_BYTES = 100_000
 LARGE_VALUES = 500
+ELEMENT_BYTES = 50
 LIMIT_MIB = 64
 # The stated size of such an item: 64 bytes, its key and its value.
 ITEM_BYTES = 64 + 14 + VALUE_BYTES
@@ -141,6 +142,64 @@ def workloads():
     ]
 
 
+def element(number):
+    return (b"%d " % number).ljust(ELEMENT_BYTES, b"v")
+
+
+def list_requests():
+    """Inserts at the head of 100 lists that hold 500 elements at most, and then reads of the first 20."""
+    made = b" create 0 0 500"
+    requests = [b"lop insert list:%06d 0 %d%s\r\n%s\r\n" % (i % 100, ELEMENT_BYTES, made if i < 100 else b"", element(i)) for i in range(60_000)]
+    requests += [b"lop get list:%06d 0..19\r\n" % random.Random(i).randrange(100) for i in range(60_000)]
+    return requests
+
+
+def set_requests():
+    """Inserts into 100 sets, each with a look-up; from the 501st element of a set on its oldest one is deleted."""
+    requests = []
+    for i in range(80_000):
+        name, number = b"set:%07d" % (i % 100), i // 100
+        requests.append(b"sop insert %s %d%s\r\n%s\r\n" % (name, ELEMENT_BYTES, b"" if number else b" create 0 0 4000", element(number)))
+        if number >= 500:
+            requests.append(b"sop delete %s %d\r\n%s\r\n" % (name, ELEMENT_BYTES, element(number - 500)))
+        requests.append(b"sop exist %s %d\r\n%s\r\n" % (name, ELEMENT_BYTES, element(number // 2)))
+    return requests
+
+
+def map_requests():
+    """The same with the fields of 100 maps."""
+    requests = []
+    for i in range(80_000):
+        name, number = b"map:%07d" % (i % 100), i // 100
+        requests.append(b"mop insert %s f%010d %d%s\r\n%s\r\n" % (name, number, ELEMENT_BYTES, b"" if number else b" create 0 0 4000", element(number)))
+        if number >= 500:
+            requests.append(b"mop delete %s 11 1\r\nf%010d\r\n" % (name, number - 500))
+        requests.append(b"mop get %s 11 1\r\nf%010d\r\n" % (name, number // 2))
+    return requests
+
+
+def one_collection(count):
+    """So many inserts into one collection of each kind, a look-up of each element, and one removal of all."""
+    made = b" create 0 0 1000000"
+    one = [b"lop insert l -1 %d%s\r\n%s\r\n" % (ELEMENT_BYTES, b"" if i else made, element(i)) for i in range(count)]
+    one += [b"lop get l %d\r\n" % i for i in range(count)] + [b"lop delete l 0..-1\r\n"]
+    two = [b"sop insert s %d%s\r\n%s\r\n" % (ELEMENT_BYTES, b"" if i else made, element(i)) for i in range(count)]
+    two += [b"sop exist s %d\r\n%s\r\n" % (ELEMENT_BYTES, element(i)) for i in range(count)] + [b"sop get s 0 drop\r\n"]
+    three = [b"mop insert m f%010d %d%s\r\n%s\r\n" % (i, ELEMENT_BYTES, b"" if i else made, element(i)) for i in range(count)]
+    three += [b"mop get m 11 1\r\nf%010d\r\n" % i for i in range(count)]
+    fields = [b" ".join(b"f%010d" % i for i in range(at, at + 5_000)) for at in range(0, count, 5_000)]
+    three += [b"mop delete m %d 5000\r\n%s\r\n" % (len(names), names) for names in fields]
+    return [("a list", one), ("a set", two), ("a map", three)]
+
+
+def collection_workloads():
+    """Sessions on collections, whole: a name, and the requests."""
+    sessions = [("lists", list_requests()), ("sets", set_requests()), ("maps", map_requests())]
+    for count in (10_000, 20_000, 40_000):
+        sessions += [(f"{name} that grows to {count:,} elements, is read and emptied", requests) for name, requests in one_collection(count)]
+    return sessions
+
+
 def collected(program, requests, piece, folder):
     """User-space instructions of one session by callgrind. Reads give at most `piece` bytes, where it is given."""
     out = os.path.join(folder, "callgrind.out")
@@ -172,6 +231,9 @@ def tell_instructions(programs, folder):
         for program in programs:
             both = collected(program, before + requests, piece, folder)
             figures.append((both - collected(program, before, None, folder)) / count)
+        print(f"  {name}: " + ", ".join(f"{figure:,.0f}" for figure in figures))
+    for name, requests in collection_workloads():
+        figures = [collected(program, b"".join(requests), None, folder) / len(requests) for program in programs]
         print(f"  {name}: " + ", ".join(f"{figure:,.0f}" for figure in figures))
 
 
