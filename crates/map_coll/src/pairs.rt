@@ -201,11 +201,15 @@ impl MapColl {
     }
 
     /// Removes the pairs of the named fields in one step. The others keep their order, and a field without a pair, or one
-    /// that is named twice, changes nothing more. Takes no memory.
+    /// that is named twice, changes nothing more. Takes no memory. Where one field is named, the map is not walked, and
+    /// its pair is removed as by `remove`.
     pub fn remove_fields(&mut self, fields: &KeyWords<'_>)
         ensures pairs { self.new.pairs ≡ without fields.now self.old.pairs }
         ensures spare { self.old.spare ≤ self.new.spare }
     {
+        if fields.count() == 1 {
+            return self.remove_alone(fields);
+        }
         let gone = mark_fields(&mut self.table, fields);
         self.size = self.size.wrapping_sub(gone);
         self.table.retain(
@@ -213,6 +217,23 @@ impl MapColl {
                 ensures { (result ≡ not held.old.marked) × (held.new ≡ held.old) }
             { !held.marked },
         );
+    }
+
+    // Removes the pair of the only field that is named, if it is there. No other pair is looked at, and those behind it
+    // are moved.
+    fn remove_alone(&mut self, fields: &KeyWords<'_>)
+        requires { length fields.now ≡ 1 }
+        ensures pairs { self.new.pairs ≡ without fields.now self.old.pairs }
+        ensures spare { self.old.spare ≤ self.new.spare }
+    {
+        // `count` says too that the fields are distinct, which is why no other pair has to go.
+        let count = self.count();
+        if let Some(field) = fields.iter().next() {
+            if let Some(place) = self.place_of(field.bytes()) {
+                prove!(place < count);
+                self.remove(place);
+            }
+        }
     }
 
     /// Removes all pairs in one step.

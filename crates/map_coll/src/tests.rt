@@ -74,6 +74,30 @@ fn removes_named_fields_at_once(rt: HostRuntime) -> Result<(), Fail> {
 }
 
 #[test]
+fn removes_the_only_named_field(rt: HostRuntime) -> Result<(), Fail> {
+    let alloc = rt.alloc();
+    let mut map = MapColl::new(alloc);
+    for field in [b"a", b"b", b"c", b"d"] {
+        add(&rt, alloc, &mut map, field, b"1")?;
+    }
+    for (name, pairs, size) in REMOVALS {
+        let fields = KeyWords::read(name, 1).ok_or("words")?;
+        map.remove_fields(&fields);
+        assert_eq!(rt; text(alloc, &map)?.as_slice(), pairs);
+        assert_eq!(rt; map.size(), size);
+    }
+    Ok(())
+}
+
+// The only named field of each removal, and the pairs that are left of those of `a` to `d`, with their size.
+const REMOVALS: [(&[u8], &[u8], u64); 4] = [
+    (b"x", b"a=1 b=1 c=1 d=1 ", 4 * 34),
+    (b"b", b"a=1 c=1 d=1 ", 3 * 34),
+    (b"b", b"a=1 c=1 d=1 ", 3 * 34),
+    (b"d", b"a=1 c=1 ", 2 * 34),
+];
+
+#[test]
 fn chooses_named_fields_in_the_order_of_naming(rt: HostRuntime) -> Result<(), Fail> {
     let alloc = rt.alloc();
     let mut map = MapColl::new(alloc);
