@@ -30,16 +30,25 @@ def write(text, *path):
         file.write(text)
 
 
+def copy_crate(name):
+    """Copies a crate, and keeps what an earlier run proved in its folder `out`."""
+    for folder in ("src", "specs", "proofs"):
+        there = os.path.join(SCRATCH, "crates", name, folder)
+        shutil.rmtree(there, ignore_errors=True)
+        here = os.path.join(TOP, "crates", name, folder)
+        if os.path.isdir(here):
+            shutil.copytree(here, there)
+
+
 def picks(function, clause, body, use=""):
     return f"{use}use Rattle.trees_bench.proofs.{function}.Given as goal\n\nabbrev pub {clause} : goal.{clause}\n{clause} {body}\n"
 
 
 def make():
     """A repository of the crates that are needed, and the program's crate."""
-    shutil.rmtree(os.path.join(SCRATCH, "crates"), ignore_errors=True)
     lines = [line for line in read(TOP, "crates.txt").splitlines() if line.split(":")[0] in NEEDED]
     for name in NEEDED:
-        shutil.copytree(os.path.join(TOP, "crates", name), os.path.join(SCRATCH, "crates", name), ignore=shutil.ignore_patterns("out"))
+        copy_crate(name)
     write("\n".join(lines + ["trees_bench: arc_core btree_nodes btree_scan"]) + "\n", SCRATCH, "crates.txt")
     shutil.copy(os.path.join(TOP, "HANDLES"), SCRATCH)
     crate = os.path.join(SCRATCH, "crates", "trees_bench")
@@ -75,9 +84,9 @@ def resident(*words):
 
 
 def memory():
-    empty = resident("hold", 5, 1)
+    # Between two counts of trees, since the smallest figure that is given is this script's own size.
     for elements, trees in ((5, 40_000), (50, 4_000), (5_000, 40)):
-        each = (resident("hold", elements, trees) - empty) / (elements * trees)
+        each = (resident("hold", elements, 3 * trees) - resident("hold", elements, trees)) / (2 * elements * trees)
         print(f"trees of {elements}: {each:.0f} bytes an element, {each / STATED:.2f} times the stated size", flush=True)
 
 
