@@ -23,7 +23,8 @@ fn is_below_number(elem: &Elem, number: u64) -> bool
 
 /// How many of the elements have bkeys below a number. The elements are by rising bkeys.
 ///
-/// In a function of its own, since a tight loop is quicker than compares of whole bkeys.
+/// The last element is looked at first. It is a function of its own, since a tight loop is quicker than compares of whole
+/// bkeys.
 #[inline(never)]
 fn below_number(elements: &[Elem], number: u64) -> usize
     requires { IsRising elements.now }
@@ -31,15 +32,19 @@ fn below_number(elements: &[Elem], number: u64) -> usize
     ensures within { result ≤ length elements.now }
 {
     let mut low = 0;
-    let mut high = elements.len();
-    let mut middle = high.saturating_sub(1);
-    while low < high {
-        if is_below_number(&elements[middle], number) {
-            low = middle + 1;
-        } else {
-            high = middle;
+    let mut size = elements.len();
+    if size == 0 {
+        return 0;
+    }
+    if is_below_number(&elements[size - 1], number) {
+        return size;
+    }
+    while size > 1 {
+        let half = size / 2;
+        if is_below_number(&elements[low + half - 1], number) {
+            low += half;
         }
-        middle = low + (high - low) / 2;
+        size -= half;
     }
     low
 }
@@ -92,7 +97,7 @@ fn is_up_to_number(child: &Child, number: u64) -> bool
     }
 }
 
-/// The child below which a number stands, or would stand.
+/// The child below which a number stands, or would stand. The last child is looked at first.
 #[inline(never)]
 fn child_with_number(children: &[Child], number: u64) -> usize
     requires some { 1 ≤ length children.now }
@@ -101,15 +106,18 @@ fn child_with_number(children: &[Child], number: u64) -> usize
     ensures { IsWayTo (Number number) children.now result }
 {
     let mut low = 0;
-    let mut high = children.len();
-    let mut middle = high - 1;
-    while low + 1 < high {
-        if is_up_to_number(&children[middle], number) {
-            low = middle;
+    let mut size = children.len() - 1;
+    if is_up_to_number(&children[size], number) {
+        return size;
+    }
+    while size > 1 {
+        let half = size / 2;
+        if is_up_to_number(&children[low + half], number) {
+            low += half;
+            size -= half;
         } else {
-            high = middle;
+            size = half;
         }
-        middle = low + (high - low) / 2;
     }
     low
 }
