@@ -4,6 +4,7 @@ pub mod MovingLemmas
 pub mod SplitLemmas
 pub mod InsertLemmas
 pub mod MiddleLemmas
+pub mod ReliefLemmas
 pub mod RunLemmas
 pub mod PairLemmas
 pub mod MendLemmas

@@ -6,6 +6,7 @@ pub mod Leveling
 pub mod NodeFalls
 pub mod NodeRules
 pub mod PartRules
+pub mod Relief
 pub mod Removal
 pub mod Replacing
 pub mod Rooting

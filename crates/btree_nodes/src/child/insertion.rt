@@ -1,17 +1,43 @@
 //! Inserts at a place, with splits of full nodes on the way down.
-ghost use Rattle.std.specs.Prelude.{◌≡◌, ◌+◌, ◌^◌, ◌≤◌, ◌<◌, length, take, slice_index_or, vec_capacity};
+ghost use Rattle.std.specs.Prelude.{◌≡◌, ◌+◌, ◌-◌, ◌^◌, ◌≤◌, ◌<◌, length, take, slice_index_or, vec_capacity};
 ghost use Rattle.btree_nodes.specs.Subtree.{Subtree, all_elements, branch_of, height_over, IsBranch};
 ghost use Rattle.btree_nodes.specs.NodeRules.{subtree_of, IsNode};
 ghost use Rattle.btree_nodes.specs.FoundAt.{IsFoundAt};
 ghost use Rattle.btree_nodes.specs.Growth.{IsGrown, IsRoomMade};
+ghost use Rattle.btree_nodes.specs.Relief.{IsUnevenAt};
 ghost use Rattle.btree_nodes.specs.SpareNodes.{AreEnough, AreEnoughBelow};
 
+use super::pairing::{FILLED_WIDTH, relieve};
 use super::{Child, Node, child_at};
 use crate::spare::{MAX_WIDTH, Spare};
 use arc_core::Elem;
 
-/// Splits the child at `index` where it is full. Answers the child into which an insert at place `offset` below it goes
-/// then, and the place below that one.
+/// Hands items of the full child at `index` on to its left neighbour, which has at most 24. Answers as `make_room`.
+fn hand_on(children: &mut Vec<Child>, index: usize, offset: usize) -> (usize, usize)
+    requires branch { IsBranch children.old.items (vec_capacity children.old) }
+    requires fits { length (all_elements children.old.items) < 2 ^ 32 }
+    requires behind { 1 ≤ index }
+    requires index { index < length children.old.items }
+    requires offset { (d : Subtree) → offset ≤ length (slice_index_or children.old.items index d).elements }
+    requires uneven { IsUnevenAt children.old.items (index - 1) }
+    ensures room { IsRoomMade children.old.items children.new.items index offset result.0 result.1 }
+    ensures branch { IsBranch children.new.items (vec_capacity children.new) }
+    ensures capacity { vec_capacity children.old ≤ vec_capacity children.new }
+{
+    let left = index - 1;
+    let offset = children[left].count() as usize + offset;
+    relieve(children, index);
+    let left_count = children[left].count() as usize;
+    if offset <= left_count {
+        (left, offset)
+    } else {
+        (index, offset - left_count)
+    }
+}
+
+/// Makes room in the child at `index` where it is full: it hands items on to its left neighbour where that has room for
+/// some, so that inserts at the right end leave full nodes behind, and is split else. Answers the child into which an
+/// insert at place `offset` below it goes then, and the place below that one.
 fn make_room(
     children: &mut Vec<Child>,
     index: usize,
@@ -19,6 +45,7 @@ fn make_room(
     spare: &mut Spare,
 ) -> (usize, usize)
     requires branch { IsBranch children.old.items (vec_capacity children.old) }
+    requires fits { length (all_elements children.old.items) < 2 ^ 32 }
     requires not_full { length children.old.items < 32 }
     requires index { index < length children.old.items }
     requires offset { (d : Subtree) → offset ≤ length (slice_index_or children.old.items index d).elements }
@@ -30,6 +57,9 @@ fn make_room(
 {
     if children[index].width() < MAX_WIDTH {
         return (index, offset);
+    }
+    if index > 0 && children[index - 1].width() <= FILLED_WIDTH {
+        return hand_on(children, index, offset);
     }
     let second = children[index].split(spare);
     let first_count = children[index].count() as usize;

@@ -1,10 +1,11 @@
 //! Nodes with too few elements or children, and their neighbours.
-ghost use Rattle.std.specs.Prelude.{◌≡◌, ◌+◌, ◌^◌, ◌≤◌, ◌<◌, ◌++◌, length, vec_capacity, take, drop, ◌∷◌};
+ghost use Rattle.std.specs.Prelude.{◌≡◌, ◌+◌, ◌-◌, ◌^◌, ◌≤◌, ◌<◌, ◌++◌, length, vec_capacity, take, drop, ◌∷◌};
 ghost use Rattle.std.specs.Option.{option_to_list};
 ghost use Rattle.btree_nodes.specs.Subtree.{Subtree, all_elements, branch_of, height_over, IsBranch};
 ghost use Rattle.btree_nodes.specs.NodeRules.{subtree_of};
 ghost use Rattle.btree_nodes.specs.declared.child.Node.TheVariants.{Leaf, Branch};
 ghost use Rattle.btree_nodes.specs.Removal.{IsLooseAt, IsPaired, IsLooseBranch, IsMended};
+ghost use Rattle.btree_nodes.specs.Relief.{IsUneven, IsUnevenAt, IsRelieved, HaveFree};
 ghost use Rattle.btree_nodes.specs.Leveling.{IsLeveled};
 
 use super::splitting::MIN_WIDTH;
@@ -13,16 +14,21 @@ use crate::moving::{move_first, move_last};
 use crate::spare::MAX_WIDTH;
 use arc_core::Elem;
 
+/// The most items of a node that takes some of its full right neighbour.
+pub(super) const FILLED_WIDTH: usize = 24;
+
 /// Moves items between neighbours that fill one node at least, until each has enough. One that is short
 /// takes from its right neighbour all that this one can do without, so that what is removed at the left end of a tree
-/// finds full nodes; else it takes half of what the left neighbour has more.
+/// finds full nodes; else it takes half of what the left neighbour has more. A full one fills its left neighbour but for
+/// one place.
 fn level<T: Drop>(left: &mut Vec<T>, right: &mut Vec<T>)
     requires left_most { length left.old.items ≤ 32 }
     requires right_most { length right.old.items ≤ 32 }
     requires together { 32 ≤ length left.old.items + length right.old.items }
     requires left_room { 32 ≤ vec_capacity left.old }
     requires right_room { 32 ≤ vec_capacity right.old }
-    ensures { IsLeveled left.old right.old left.new right.new }
+    ensures leveled { IsLeveled left.old right.old left.new right.new }
+    ensures free { IsUneven (length left.old.items) (length right.old.items) → (length left.new.items < 32) × (length right.new.items < 32) }
 {
     if left.len() < MIN_WIDTH {
         let number = right.len() - MIN_WIDTH;
@@ -30,6 +36,9 @@ fn level<T: Drop>(left: &mut Vec<T>, right: &mut Vec<T>)
     } else if right.len() < MIN_WIDTH {
         let number = (left.len() - right.len()) / 2;
         move_last(left, right, number);
+    } else if right.len() == MAX_WIDTH && left.len() <= FILLED_WIDTH {
+        let number = MAX_WIDTH - 1 - left.len();
+        move_first(right, left, number);
     }
 }
 
@@ -40,7 +49,8 @@ fn pair_leaves(mut left: Vec<Elem>, mut right: Vec<Elem>) -> (Child, Option<Chil
     requires enough { 16 ≤ length left.items + length right.items }
     requires left_room { 32 ≤ vec_capacity left }
     requires right_room { 32 ≤ vec_capacity right }
-    ensures { IsPaired 2 (subtree_of (Leaf left)) (subtree_of (Leaf right)) result.0 result.1 }
+    ensures paired { IsPaired 2 (subtree_of (Leaf left)) (subtree_of (Leaf right)) result.0 result.1 }
+    ensures free { IsUneven (length left.items) (length right.items) → HaveFree result.0 result.1 }
 {
     if left.len() + right.len() < MAX_WIDTH {
         left.append(&mut right).unwrap();
@@ -57,7 +67,8 @@ fn pair_branches(mut left: Vec<Child>, mut right: Vec<Child>) -> (Child, Option<
     requires level { height_over left.items ≡ height_over right.items }
     requires enough { 16 ≤ length left.items + length right.items }
     requires fits { length (all_elements left.items) + length (all_elements right.items) < 2 ^ 32 }
-    ensures { IsPaired (height_over left.items + 1) (branch_of left.items (vec_capacity left)) (branch_of right.items (vec_capacity right)) result.0 result.1 }
+    ensures paired { IsPaired (height_over left.items + 1) (branch_of left.items (vec_capacity left)) (branch_of right.items (vec_capacity right)) result.0 result.1 }
+    ensures free { IsUneven (length left.items) (length right.items) → HaveFree result.0 result.1 }
 {
     if left.len() + right.len() < MAX_WIDTH {
         left.append(&mut right).unwrap();
@@ -74,7 +85,8 @@ fn pair(left: Child, right: Child) -> (Child, Option<Child>)
     requires level { left.height ≡ right.height }
     requires enough { 16 ≤ left.width + right.width }
     requires fits { length left.elements + length right.elements < 2 ^ 32 }
-    ensures { IsPaired (left.height + 1) left right result.0 result.1 }
+    ensures paired { IsPaired (left.height + 1) left right result.0 result.1 }
+    ensures free { IsUneven left.width right.width → HaveFree result.0 result.1 }
 {
     match left.node {
         Node::Leaf(left) => {
@@ -105,6 +117,36 @@ fn put_back(children: &mut Vec<Child>, place: usize, first: Child, second: Optio
     children.insert(place, first).unwrap();
 }
 
+/// Puts the items of two neighbours into one node, or levels the two. At `index` is one of them.
+fn join_or_level(children: &mut Vec<Child>, place: usize, index: usize)
+    requires loose { IsLooseBranch children.old.items (vec_capacity children.old) index }
+    requires fits { length (all_elements children.old.items) < 2 ^ 32 }
+    requires one { (place ≤ index) × (index ≤ place + 1) }
+    requires within { place + 1 < length children.old.items }
+    ensures mended { IsMended children.old.items children.new.items (vec_capacity children.new) }
+    ensures capacity { vec_capacity children.old ≤ vec_capacity children.new }
+    ensures relieved { IsUnevenAt children.old.items place → IsRelieved children.old.items place children.new.items }
+{
+    let left = children.remove(place);
+    let right = children.remove(place);
+    let (first, second) = pair(left, right);
+    put_back(children, place, first, second);
+}
+
+/// Moves items of the full child at `index` to its left neighbour, which has at most 24.
+pub(super) fn relieve(children: &mut Vec<Child>, index: usize)
+    requires branch { IsBranch children.old.items (vec_capacity children.old) }
+    requires fits { length (all_elements children.old.items) < 2 ^ 32 }
+    requires behind { 1 ≤ index }
+    requires within { index < length children.old.items }
+    requires uneven { IsUnevenAt children.old.items (index - 1) }
+    ensures mended { IsMended children.old.items children.new.items (vec_capacity children.new) }
+    ensures capacity { vec_capacity children.old ≤ vec_capacity children.new }
+    ensures relieved { IsRelieved children.old.items (index - 1) children.new.items }
+{
+    join_or_level(children, index - 1, index);
+}
+
 /// Mends the child at `index` with a neighbour, where it has too few elements or children.
 pub(super) fn mend(children: &mut Vec<Child>, index: usize)
     requires loose { IsLooseBranch children.old.items (vec_capacity children.old) index }
@@ -116,8 +158,5 @@ pub(super) fn mend(children: &mut Vec<Child>, index: usize)
         return;
     }
     let place = index.min(children.len() - 2);
-    let left = children.remove(place);
-    let right = children.remove(place);
-    let (first, second) = pair(left, right);
-    put_back(children, place, first, second);
+    join_or_level(children, place, index);
 }
