@@ -2,12 +2,12 @@
 use Rattle.std.proofs.Common.{◌≡◌, ◌≢◌, ℕ, suc, ◌+◌, ◌-◌, ◌<◌, ◌≤◌, List, [], ◌∷◌, ◌++◌, length, get_or, take, drop, Option, Some, None, ap, sym, ◌∙◌, subst, arith}
 use Rattle.std.specs.List.{All, remove}
 use Rattle.std.specs.Option.{option_to_list}
-use Rattle.std.proofs.lemmas.List.{append_assoc, append-nil, length-append, length-take-le, length-drop, take-append-drop, drop_more, take_at, drop_at, drop-drop, get_or-take, get_or-drop, get_or-append_right, get_or_at}
+use Rattle.std.proofs.lemmas.List.{append_assoc, append-nil, length-append, length-take-le, length-drop, take-append-drop, drop_more, take_at, drop_at, drop-drop, get_or-take, get_or-drop, get_or-append_right, get_or_at, nil_from_length}
 use Rattle.std.proofs.lemmas.List.Elements.{All-append, All-cons, All-nil}
 use Rattle.std.proofs.Math.Seq.{drop-append-add}
 use Rattle.btree_nodes.specs.Subtree.{Subtree, all_elements, height_over, IsChildAt}
 use Rattle.btree_nodes.specs.Removal.{IsLooseBranch, IsPaired, IsMended}
-use Rattle.btree_nodes.proofs.ChildrenLemmas.{all_append, branch_from, height_of_children}
+use Rattle.btree_nodes.proofs.ChildrenLemmas.{all_append, all_split, branch_from, height_of_children}
 
 -- What is left of a list, of which a and b stood at the places p and p + 1.
 pub record AreOut {X : Type 0} (xs rest : List X) (p : ℕ) (a b : X) : Type 0 where
@@ -96,4 +96,28 @@ mended children rest new room room' index p a b first second loose rooms within 
       length_is = omega (arith, new_length, count);
       alone = λ one d. subst (λ (x : Subtree). x.width < 32) (sym (ap (λ ys. get_or ys 0 d) is ∙ get_or_at A first (option_to_list second ++ B) d 0 (omega (arith, len, one, new_length, within))))
           (paired_alone (height_over children) a b first second paired (omega (arith, one, new_length, within)));
+    }
+
+-- a child with nothing below it is left out
+pub left_out : (children rest : List Subtree) (room room' index : ℕ) (d : Subtree) → IsLooseBranch children room index → room ≤ room' → 2 < length children → rest ≡ remove children index
+    → length (get_or children index d).elements ≡ 0 → IsMended children rest room'
+left_out children rest room room' index d loose rooms more rest_is none =
+    let P = IsChildAt (height_over children) in
+    let A = take index children in
+    let B = drop (index + 1) children in
+    let next : suc index ≡ index + 1 = omega arith in
+    let len = length-take-le index children (omega (arith, loose.within)) in
+    let B_length = length-drop (index + 1) children in
+    let is : rest ≡ A ++ B = rest_is ∙ ap (λ k. A ++ drop k children) next in
+    let all_A : All P A = λ k e below. subst P (sym (get_or-take index children k e (omega (arith, len, below)))) (tight children room index k e loose (omega (arith, len, below, loose.within)) (omega (arith, len, below))) in
+    let all_B : All P B = λ k e below. subst P (sym (get_or-drop (index + 1) children k e)) (tight children room index (index + 1 + k) e loose (omega (arith, B_length, below)) (omega (arith, B_length, below))) in
+    let all : All P rest = subst (All P) (sym is) (All-append P A B all_A all_B) in
+    let rest_length : length rest ≡ length children - 1 = omega (arith, ap length is, length-append A B, len, B_length, loose.within) in
+    let nothing : (get_or children index d).elements ≡ [] = nil_from_length (get_or children index d).elements none in
+    record {
+      branch = branch_from (height_over children) rest room' (omega (arith, rest_length)) (omega (arith, rest_length, loose.most)) (omega (arith, loose.roomy)) all;
+      elements = ap all_elements is ∙ (all_append A B ∙ (ap (λ ys. all_elements A ++ (ys ++ all_elements B)) (sym nothing) ∙ sym (all_split children index d loose.within)));
+      height = height_of_children (height_over children) rest (omega (arith, rest_length)) all;
+      length_is = omega (arith, rest_length);
+      alone = λ one e. absurd (omega (arith, one, rest_length));
     }

@@ -1,7 +1,7 @@
 -- A run that is cut out of a list.
 use Rattle.std.proofs.Common.{◌≡◌, ℕ, suc, ◌+◌, ◌-◌, ◌/◌, ◌<◌, ◌≤◌, List, ◌++◌, length, get_or, take, drop, refl, ap, sym, ◌∙◌, subst, arith}
 use Rattle.std.specs.List.{All, between, remove, remove_range}
-use Rattle.std.proofs.lemmas.List.{append_assoc, length-append, take_at, drop_at, drop-drop, length-take-le, get_or-append_right, get_or-drop, take-append-drop, take-take, drop-take, length-drop}
+use Rattle.std.proofs.lemmas.List.{append_assoc, length-append, take_at, drop_at, drop-drop, length-take-le, get_or-append_right, get_or-drop, take-append-drop, take-take, drop-take, drop_all, append-nil, length-drop}
 use Rattle.std.proofs.lemmas.List.Elements.{All-take, All-drop}
 use Rattle.std.proofs.Math.Seq.{drop-append-add}
 
@@ -17,6 +17,11 @@ pub get_last : {X : Type 0} (xs : List X) (low high : ℕ) (d : X) → low ≤ h
 get_last xs low high d order within =
     let len = length-take-le low xs (omega arith) in
     get_or-append_right (take low xs) (drop high xs) low low d len (omega arith) ∙ (get_or-drop high xs (low - low) d ∙ ap (λ k. get_or xs k d) (omega arith))
+
+-- the last of a run at the end is removed before the others
+pub remove_tail : {X : Type 0} (xs : List X) (low high n : ℕ) → low < high → high ≡ length xs → n + 1 ≡ high → take low (take n xs) ≡ remove_range xs low high
+remove_tail xs low high n order end next =
+    take-take low n xs (omega arith) ∙ (sym (append-nil (take low xs)) ∙ ap (λ ys. take low xs ++ ys) (sym (drop_all high xs (omega arith))))
 
 -- what holds of all holds of a front and of what is behind it
 pub all_front : {X : Type 0} (P : X → Type 0) (xs ys zs : List X) → xs ++ ys ≡ zs → All P zs → All P xs

@@ -1,5 +1,5 @@
 //! Elements that stand next to each other in a leaf.
-ghost use Rattle.std.specs.Prelude.{◌≡◌, ◌%◌, ◌^◌, ◌≤◌, ◌<◌, length, vec_capacity};
+ghost use Rattle.std.specs.Prelude.{◌≡◌, ◌%◌, ◌^◌, ◌≤◌, ◌<◌, ◌-◌, length, slice_index_or, vec_capacity};
 ghost use Rattle.std.specs.List.{remove_range};
 ghost use Rattle.arc_core.specs.TreeContents.{bkey_size, elem_size, elem_sizes};
 ghost use Rattle.btree_nodes.specs.Removal.{IsRun};
@@ -45,6 +45,7 @@ fn elem_sizes(elements: &[Elem]) -> u64
 }
 
 /// Drops the elements from place `low` to before place `high`.
+#[inline(never)]
 fn drop_range(elements: &mut Vec<Elem>, low: usize, high: usize)
     requires order { low ≤ high }
     requires within { high ≤ length elements.old.items }
@@ -54,6 +55,23 @@ fn drop_range(elements: &mut Vec<Elem>, low: usize, high: usize)
     if low < high {
         elements.drain(low..high);
     }
+}
+
+/// Removes the elements from a place to before `end`, and gives the last of them.
+fn take_out(elements: &mut Vec<Elem>, place: usize, end: usize) -> Elem
+    requires some { place < end }
+    requires within { end ≤ length elements.old.items }
+    ensures items { elements.new.items ≡ remove_range elements.old.items place end }
+    ensures last { result ≡ slice_index_or elements.old.items (end - 1) result }
+    ensures capacity { vec_capacity elements.new ≡ vec_capacity elements.old }
+{
+    if end == elements.len() {
+        let last = elements.pop().unwrap();
+        elements.truncate(place);
+        return last;
+    }
+    drop_range(elements, place, end - 1);
+    elements.remove(place)
 }
 
 /// Removes at most `most` elements from a place on.
@@ -66,7 +84,6 @@ pub(crate) fn take_run(elements: &mut Vec<Elem>, place: usize, most: usize) -> R
     let count = most.min(elements.len() - place);
     let end = place + count;
     let size = elem_sizes(&elements[place..end]);
-    drop_range(elements, place, end - 1);
-    let last = elements.remove(place);
+    let last = take_out(elements, place, end);
     Run { count, size, last }
 }

@@ -118,6 +118,7 @@ fn put_back(children: &mut Vec<Child>, place: usize, first: Child, second: Optio
 }
 
 /// Puts the items of two neighbours into one node, or levels the two. At `index` is one of them.
+#[inline(never)]
 fn join_or_level(children: &mut Vec<Child>, place: usize, index: usize)
     requires loose { IsLooseBranch children.old.items (vec_capacity children.old) index }
     requires fits { length (all_elements children.old.items) < 2 ^ 32 }
@@ -147,7 +148,9 @@ pub(super) fn relieve(children: &mut Vec<Child>, index: usize)
     join_or_level(children, index - 1, index);
 }
 
-/// Mends the child at `index` with a neighbour, where it has too few elements or children.
+/// Mends the child at `index`, where it has too few elements or children: one with nothing goes, any other is mended with
+/// its left neighbour, or the right one where it is the first. (With the left one, elements that are removed next are not
+/// moved before.)
 pub(super) fn mend(children: &mut Vec<Child>, index: usize)
     requires loose { IsLooseBranch children.old.items (vec_capacity children.old) index }
     requires fits { length (all_elements children.old.items) < 2 ^ 32 }
@@ -157,6 +160,9 @@ pub(super) fn mend(children: &mut Vec<Child>, index: usize)
     if children[index].width() >= MIN_WIDTH {
         return;
     }
-    let place = index.min(children.len() - 2);
-    join_or_level(children, place, index);
+    if children[index].count() == 0 && children.len() > 2 {
+        children.remove(index);
+        return;
+    }
+    join_or_level(children, index.saturating_sub(1), index);
 }
