@@ -1,5 +1,5 @@
 -- What a run that is removed below a child leaves of the branch over it.
-use Rattle.std.proofs.Common.{◌≡◌, ℕ, ◌+◌, ◌-◌, ◌%◌, ◌^◌, ◌<◌, ◌≤◌, List, [], ◌∷◌, ◌++◌, length, get_or, take, drop, set, refl, ap, sym, ◌∙◌, subst, inr, arith}
+use Rattle.std.proofs.Common.{◌≡◌, ℕ, ◌+◌, ◌-◌, ◌%◌, ◌^◌, ◌<◌, ◌≤◌, List, [], ◌∷◌, ◌++◌, length, get_or, take, drop, set, Some, refl, ap, sym, ◌∙◌, subst, inr, arith}
 use Rattle.std.specs.List.{All, between, remove_range}
 use Rattle.std.proofs.lemmas.List.{length-append, length-set, get_or-set_other, get_or_append_left, length-take-le, take-append-drop, length-take, length-drop, append-nil, nil_from_length}
 use Rattle.std.proofs.Math.Nat.{mod-add-mod, add-mod-mod}
@@ -30,7 +30,7 @@ run_middle A M R new o limit run is =
       within = omega (arith, is.within, length-append A (M ++ R), length-append M R);
       elements = ap (λ ys. A ++ (ys ++ R)) is.elements ∙ (sym (remove_middle A M R o (o + run.count) order is.within) ∙ ap (λ k. remove_range (A ++ (M ++ R)) (length A + o) k) (sym end));
       size = is.size ∙ ap (λ ys. elem_sizes ys % 2 ^ 64) (sym (between_middle A M R o (o + run.count) order is.within) ∙ ap (λ k. between (length A + o) k (A ++ (M ++ R))) (sym end));
-      last = is.last ∙ (sym (get_middle A M R (o + (run.count - 1)) run.last (omega (arith, is.some, is.within))) ∙ ap (λ k. get_or (A ++ (M ++ R)) k run.last) (sym at_last));
+      last = λ d. is.last d ∙ ap (λ (e : Elem). Some e) (sym (get_middle A M R (o + (run.count - 1)) d (omega (arith, is.some, is.within))) ∙ ap (λ k. get_or (A ++ (M ++ R)) k d) (sym at_last));
     }
 
 pub height_of_loose : (height : ℕ) (children : List Subtree) → 1 ≤ length children → All (IsLooseAt height) children → height_over children ≡ height

@@ -14,7 +14,7 @@ pub record IsRun (old : List Elem) (place limit : ℕ) (new : List Elem) (run : 
   pub within : place + run.count ≤ length old
   pub elements : new ≡ remove_range old place (place + run.count)
   pub size : run.size ≡ elem_sizes (slice_range old place (place + run.count)) % 2 ^ 64
-  pub last : run.last ≡ slice_index_or old (place + (run.count - 1)) run.last
+  pub last : (d : Elem) → run.last ≡ Some (slice_index_or old (place + (run.count - 1)) d)
 
 -- A node lost such a run.
 pub record IsTrimmed (old : Subtree) (place limit : ℕ) (new : Subtree) (run : Run) : Type 0 where

@@ -7,11 +7,24 @@ ghost use Rattle.btree_nodes.specs.Removal.{IsRun};
 use arc_core::{Bkey, Elem};
 
 /// Elements that were removed: how many, their stated sizes together modulo 2^64, and the last of them.
+///
+/// What removes elements writes it in its place, since an element is too large to be handed up from node to node.
 #[derive(Drop)]
 pub(crate) struct Run {
     pub(crate) count: usize,
     pub(crate) size: u64,
-    pub(crate) last: Elem,
+    pub(crate) last: Option<Elem>,
+}
+
+impl Run {
+    /// Nothing was removed yet.
+    pub(crate) fn new() -> Run {
+        Run {
+            count: 0,
+            size: 0,
+            last: None,
+        }
+    }
 }
 
 /// The bytes that a bkey counts.
@@ -75,15 +88,15 @@ fn take_out(elements: &mut Vec<Elem>, place: usize, end: usize) -> Elem
 }
 
 /// Removes at most `most` elements from a place on.
-pub(crate) fn take_run(elements: &mut Vec<Elem>, place: usize, most: usize) -> Run
+pub(crate) fn take_run(elements: &mut Vec<Elem>, place: usize, most: usize, run: &mut Run)
     requires place { place < length elements.old.items }
     requires most { 1 ≤ most }
-    ensures run { IsRun elements.old.items place most elements.new.items result }
+    ensures run { IsRun elements.old.items place most elements.new.items run.new }
     ensures capacity { vec_capacity elements.new ≡ vec_capacity elements.old }
 {
     let count = most.min(elements.len() - place);
     let end = place + count;
-    let size = elem_sizes(&elements[place..end]);
-    let last = take_out(elements, place, end);
-    Run { count, size, last }
+    run.count = count;
+    run.size = elem_sizes(&elements[place..end]);
+    run.last = Some(take_out(elements, place, end));
 }

@@ -9,6 +9,9 @@ use std::marker::Model;
 /// The most elements of a leaf, and the most children of a branch.
 pub(crate) const MAX_WIDTH: usize = 32;
 
+/// A tree of fewer elements keeps no spare leaf from one insert to the next, since that would be a large part of it.
+const KEPT_FROM: u32 = 256;
+
 /// Empty vectors with room for 32. Contracts see how many there are.
 #[derive(Drop)]
 pub(crate) struct Empties<T> {
@@ -52,6 +55,13 @@ impl<T: Drop> Empties<T> {
         self.vectors.pop().unwrap()
     }
 
+    /// Lets all of them go.
+    pub(crate) fn clear(&mut self)
+        ensures { self.new ≡ 0 }
+    {
+        self.vectors.clear();
+    }
+
     /// Makes them at least `number`. `NoMemory` comes for want of memory alone; those that were made stay.
     pub(crate) fn reserve(&mut self, number: usize) -> Result<(), NoMemory>
         ensures enough { OnOk result (number ≤ self.new) }
@@ -59,6 +69,8 @@ impl<T: Drop> Empties<T> {
         ensures refused { OnErr result (self.old < number) }
     {
         let alloc = *self.vectors.allocator();
+        self.vectors
+            .reserve_exact(number.saturating_sub(self.vectors.len()))?;
         for _made in self.vectors.len()..number {
             self.vectors.push(Vec::with_capacity(alloc, MAX_WIDTH)?)?;
         }
@@ -71,4 +83,13 @@ impl<T: Drop> Empties<T> {
 pub(crate) struct Spare {
     pub(crate) leaves: Empties<Elem>,
     pub(crate) branches: Empties<Child>,
+}
+
+impl Spare {
+    /// Lets a spare leaf go after an insert, where a tree of so many elements keeps none.
+    pub(crate) fn let_go(&mut self, count: u32) {
+        if count < KEPT_FROM {
+            self.leaves.clear();
+        }
+    }
 }

@@ -120,6 +120,7 @@ impl Tree {
     {
         if self.root.width() < MAX_WIDTH {
             self.root.insert(place as usize, elem, &mut self.spare);
+            self.spare.let_go(self.root.count());
             return;
         }
         let empty = Child::of_leaf(Vec::new(self.spare.leaves.allocator()));
@@ -160,14 +161,14 @@ impl Tree {
     }
 
     /// Takes at least one and at most `most` elements from a place on away.
-    fn trim(&mut self, place: u32, most: usize) -> Run
+    fn trim(&mut self, place: u32, most: usize, run: &mut Run)
         requires place { place < length self.old.elements }
         requires most { 1 ≤ most }
-        ensures run { IsRun self.old.elements place most self.new.elements result }
+        ensures run { IsRun self.old.elements place most self.new.elements run.new }
         ensures spare { self.old.spare ≤ self.new.spare }
     {
         self.root
-            .trim_as_root(&mut self.height, place as usize, most)
+            .trim_as_root(&mut self.height, place as usize, most, run);
     }
 
     /// Takes an element away and hands it out. Takes no memory.
@@ -177,7 +178,9 @@ impl Tree {
         ensures element { result ≡ slice_index_or self.old.elements place result }
         ensures spare { self.old.spare ≤ self.new.spare }
     {
-        self.trim(place, 1).last
+        let mut run = Run::new();
+        self.trim(place, 1, &mut run);
+        run.last.unwrap()
     }
 
     /// Takes the elements from place `low` to before place `high` away, and answers their stated sizes together, modulo 2^64.
@@ -191,8 +194,9 @@ impl Tree {
     {
         let mut left = (high - low) as usize;
         let mut size = 0u64;
+        let mut run = Run::new();
         while left > 0 {
-            let run = self.trim(low, left);
+            self.trim(low, left, &mut run);
             left -= run.count;
             size = size.wrapping_add(run.size);
         }

@@ -52,7 +52,14 @@ impl Child {
 
 /// Removes at least one and at most `most` elements from a place on among the `total` elements below a root, which falls
 /// to its only child where no other is left. `height` follows the root's.
-fn trim_root(root: &mut Node, height: &mut u32, total: usize, place: usize, most: usize) -> Run
+fn trim_root(
+    root: &mut Node,
+    height: &mut u32,
+    total: usize,
+    place: usize,
+    most: usize,
+    run: &mut Run,
+)
     requires node { IsNode root.old }
     requires two { 2 ≤ (subtree_of root.old).height → 2 ≤ (subtree_of root.old).width }
     requires height { height.old ≡ (subtree_of root.old).height }
@@ -60,20 +67,19 @@ fn trim_root(root: &mut Node, height: &mut u32, total: usize, place: usize, most
     requires fits { total < 2 ^ 32 }
     requires place { place < total }
     requires most { 1 ≤ most }
-    ensures trimmed { IsTrimmedRoot (subtree_of root.old) place most (subtree_of root.new) result }
+    ensures trimmed { IsTrimmedRoot (subtree_of root.old) place most (subtree_of root.new) run.new }
     ensures node { IsNode root.new }
     ensures height { height.new ≡ (subtree_of root.new).height }
 {
     match root {
-        Node::Leaf(elements) => take_run(elements, place, most),
+        Node::Leaf(elements) => take_run(elements, place, most, run),
         Node::Branch(children) => {
-            let run = trim_below(children, total, place, most);
+            trim_below(children, total, place, most, run);
             if children.len() == 1 {
                 let only = children.pop().unwrap();
                 *root = only.node;
                 *height -= 1;
             }
-            run
         }
     }
 }
@@ -103,20 +109,25 @@ impl Child {
 
     /// Removes at least one and at most `most` elements from a place on among those below a root, which falls to its only
     /// child where no other is left. `height` follows the root's.
-    pub(crate) fn trim_as_root(&mut self, height: &mut u32, place: usize, most: usize) -> Run
+    pub(crate) fn trim_as_root(
+        &mut self,
+        height: &mut u32,
+        place: usize,
+        most: usize,
+        run: &mut Run,
+    )
         requires two { 2 ≤ self.old.height → 2 ≤ self.old.width }
         requires height { height.old ≡ self.old.height }
         requires place { place < length self.old.elements }
         requires most { 1 ≤ most }
-        ensures trimmed { IsTrimmedRoot self.old place most self.new result }
+        ensures trimmed { IsTrimmedRoot self.old place most self.new run.new }
         ensures height { height.new ≡ self.new.height }
     {
         let total = self.count as usize;
-        let run = trim_root(&mut self.node, height, total, place, most);
+        trim_root(&mut self.node, height, total, place, most, run);
         self.count -= run.count as u32;
         if place == 0 {
             self.least = least_of(&self.node);
         }
-        run
     }
 }

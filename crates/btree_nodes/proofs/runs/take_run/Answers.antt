@@ -1,5 +1,7 @@
-use Rattle.std.proofs.Common.{arith, ◌+◌, ◌≤◌, ◌%◌, ◌^◌, ◌∙◌, ap, get_or}
+use Rattle.std.proofs.Common.{arith, Some, ◌+◌, ◌-◌, ◌≤◌, ◌%◌, ◌^◌, ◌∙◌, ap, get_or}
+use Rattle.std.proofs.lemmas.List.{get_or_default}
 use Rattle.std.specs.List.{between}
+use Rattle.arc_core.specs.declared.trees.Elem.{Elem}
 use Rattle.arc_core.specs.TreeContents.{elem_sizes}
 use Rattle.btree_nodes.proofs.runs.take_run.Goals as goal
 
@@ -13,7 +15,7 @@ returns-clause-run c =
       some = some;
       most = omega arith;
       within = omega arith;
-      elements = c.take_out-last.ensures.items;
-      size = c.elem_sizes-size.ensures ∙ ap (λ ys. elem_sizes (between low (low + count) ys) % 2 ^ 64) c.deref.ensures.value;
-      last = c.take_out-last.ensures.last ∙ ap (λ k. get_or xs k c.take_out-last.result) (omega (arith, some));
+      elements = c.take_out.ensures.items;
+      size = c.elem_sizes-run.ensures ∙ ap (λ ys. elem_sizes (between low (low + count) ys) % 2 ^ 64) c.deref.ensures.value;
+      last = λ d. ap (λ (e : Elem). Some e) (c.take_out.ensures.last ∙ (get_or_default xs (low + count - 1) c.take_out.result d (omega (arith, some)) ∙ ap (λ k. get_or xs k d) (omega (arith, some))));
     }

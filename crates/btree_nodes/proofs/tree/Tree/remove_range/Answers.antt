@@ -5,13 +5,6 @@ use Rattle.btree_nodes.proofs.tree.Tree.remove_range.Goals as goal
 pub loop-left-preserved : goal.loop-left-preserved
 loop-left-preserved c =
     let i = c.loop-left.invariant in
-    let gone = gone_more c.args.self.now.elements c.loop-left.self.elements c.trim-run.new.self.elements c.args.low c.args.high c.loop-left.left c.loop-left.size c.trim-run.result
-    (record { order = c.requires.order; within = c.requires.within; left_is = i.left; elements = i.elements; size_is = i.size }) c.trim-run.ensures.run in
-    record { left = gone.left_is; elements = gone.elements; size = gone.size_is; spare = omega (arith, i.spare, c.trim-run.ensures.spare) }
-
-pub loop-left-preserved-in-loop-left : goal.loop-left-preserved-in-loop-left
-loop-left-preserved-in-loop-left c =
-    let i = c.loop-left.invariant in
-    let gone = gone_more c.args.self.now.elements c.loop-left.self.elements c.trim-run.new.self.elements c.args.low c.args.high c.loop-left.left c.loop-left.size c.trim-run.result
-    (record { order = c.requires.order; within = c.requires.within; left_is = i.left; elements = i.elements; size_is = i.size }) c.trim-run.ensures.run in
-    record { left = gone.left_is; elements = gone.elements; size = gone.size_is; spare = omega (arith, i.spare, c.trim-run.ensures.spare) }
+    let gone = gone_more c.args.self.now.elements c.loop-left.self.elements c.trim.new.self.elements c.args.low c.args.high c.loop-left.left c.loop-left.size c.trim.new.run
+    (record { order = c.requires.order; within = c.requires.within; left_is = i.left; elements = i.elements; size_is = i.size }) c.trim.ensures.run in
+    record { left = gone.left_is; elements = gone.elements; size = gone.size_is; spare = omega (arith, i.spare, c.trim.ensures.spare) }
