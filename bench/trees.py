@@ -91,8 +91,10 @@ def memory():
 
 
 def operations(elements, times):
-    none = instructions("roll", elements, 0)
-    roll, position, cursor, opened = ((instructions(mode, elements, times) - none) / times for mode in ("roll", "position", "cursor", "open"))
+    # Between two counts of times, so that building the tree and letting it go count for nothing.
+    roll, position, cursor, opened = (
+        (instructions(mode, elements, 2 * times) - instructions(mode, elements, times)) / times for mode in ("roll", "position", "cursor", "open")
+    )
     removed = min(elements // 2, 1_000)
     range_each = (instructions("range", elements, removed) - instructions("range", elements, 0)) / removed
     print(f"{elements} elements: insert and removal {roll:.0f}, position {position:.0f}, opening a cursor {opened:.0f},", end=" ")

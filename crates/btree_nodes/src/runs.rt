@@ -57,8 +57,18 @@ fn elem_sizes(elements: &[Elem]) -> u64
     size
 }
 
-/// Drops the elements from place `low` to before place `high`.
+/// Drops the elements from place `low` to before place `high`, of which there are some.
 #[inline(never)]
+fn drain_range(elements: &mut Vec<Elem>, low: usize, high: usize)
+    requires order { low < high }
+    requires within { high ≤ length elements.old.items }
+    ensures items { elements.new.items ≡ remove_range elements.old.items low high }
+    ensures capacity { vec_capacity elements.new ≡ vec_capacity elements.old }
+{
+    elements.drain(low..high);
+}
+
+/// Drops the elements from place `low` to before place `high`.
 fn drop_range(elements: &mut Vec<Elem>, low: usize, high: usize)
     requires order { low ≤ high }
     requires within { high ≤ length elements.old.items }
@@ -66,7 +76,7 @@ fn drop_range(elements: &mut Vec<Elem>, low: usize, high: usize)
     ensures capacity { vec_capacity elements.new ≡ vec_capacity elements.old }
 {
     if low < high {
-        elements.drain(low..high);
+        drain_range(elements, low, high);
     }
 }
 

@@ -25,7 +25,6 @@ fn is_below_number(elem: &Elem, number: u64) -> bool
 ///
 /// The last element is looked at first. It is a function of its own, since a tight loop is quicker than compares of whole
 /// bkeys.
-#[inline(never)]
 fn below_number(elements: &[Elem], number: u64) -> usize
     requires { IsRising elements.now }
     ensures place { result ≡ place_of (Number number) elements.now }
@@ -98,7 +97,6 @@ fn is_up_to_number(child: &Child, number: u64) -> bool
 }
 
 /// The child below which a number stands, or would stand. The last child is looked at first.
-#[inline(never)]
 fn child_with_number(children: &[Child], number: u64) -> usize
     requires some { 1 ≤ length children.now }
     requires each { HasEach children.now }
