@@ -105,5 +105,5 @@ if __name__ == "__main__":
     make()
     build()
     memory()
-    for elements, times in ((500, 2_000), (1_000, 2_000), (1_000_000, 20_000)):
+    for elements, times in ((100, 2_000), (500, 2_000), (1_000, 2_000), (1_000_000, 20_000)):
         operations(elements, times)
