@@ -1,4 +1,9 @@
+pub mod CreditLemmas
+pub mod DescentLemmas
+pub mod DirectionLemmas
+pub mod EndLemmas
 pub mod FoundLemmas
-pub mod LeafLemmas
+pub mod LevelLemmas
+pub mod NextLemmas
 pub mod SeenLemmas
 pub mod SpanLemmas

@@ -43,3 +43,15 @@ low_tree h may =
       | inl high ↦ let more = power_high (h - 5) in let same = ap (λ k. 16 ^ k) (high_is h high) in absurd (omega (arith, more, same, may (omega arith)))
       | inr low ↦ low
     ]
+
+power_higher : (k : ℕ) → 4294967296 ≤ 16 ^ (k + 8)
+power_higher zero = omega arith
+power_higher (suc k) = let up : suc k + 8 ≡ k + 8 + 1 = omega arith in omega (arith, ap (λ n. 16 ^ n) up, pow_more 16 (k + 8), power_higher k)
+
+-- a tree of fewer than 2^32 elements is eight levels high at most
+pub tree_low : (count h : ℕ) → count < 4294967296 → (2 ≤ h → 16 ^ (h - 1) ≤ count) → h ≤ 8
+tree_low count h fits may =
+    elim (cases_lt 8 h) [
+      | inl high ↦ let more = power_higher (h - 9) in let up : h - 9 + 8 ≡ h - 1 = omega arith in let same = ap (λ k. 16 ^ k) up in absurd (omega (arith, more, same, may (omega arith)))
+      | inr low ↦ low
+    ]

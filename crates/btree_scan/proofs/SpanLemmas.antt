@@ -13,7 +13,7 @@ use Rattle.arc_core.specs.declared.bkeys.BkeyRange.{BkeyRange}
 use Rattle.arc_core.specs.declared.trees.Elem.{Elem}
 use Rattle.arc_core.specs.BkeyOrder.{bkey_cmp, is_down, is_in_range, lesser_end, greater_end, span}
 use Rattle.arc_core.specs.TreeReading.{is_selected, selected}
-use Rattle.btree_scan.proofs.LeafLemmas.{as_many}
+use Rattle.btree_scan.proofs.DirectionLemmas.{as_many}
 use Rattle.arc_core.specs.BkeyLaws.{bkey_cmp_total}
 use Rattle.arc_core.specs.TreeContents.{IsRising, place_of}
 use Rattle.btree_nodes.specs.Ways.{has_bkey}
@@ -44,12 +44,12 @@ filter_between p xs low high order within before inside behind =
     let rest = filter_none p R (λ k d below. ap p (get_or-drop high xs k d) ∙ behind (high + k) d (omega arith) (omega (arith, below, length-drop high xs))) in
     ap (filter p) (split_between xs low high order) ∙ (filter-append p A (M ++ R) ∙ (ap (λ ys. ys ++ filter p (M ++ R)) front ∙ (filter-append p M R ∙ (ap (λ ys. ys ++ filter p R) middle ∙ (ap (λ ys. M ++ ys) rest ∙ append-nil M)))))
 
-back_lt : (o p : Ordering) → p ≡ ordering_reverse o → is_lt o ≡ true → is_gt p ≡ true
+pub back_lt : (o p : Ordering) → p ≡ ordering_reverse o → is_lt o ≡ true → is_gt p ≡ true
 back_lt Less p rev lt = ap is_gt rev
 back_lt Equal p rev lt = cc lt
 back_lt Greater p rev lt = cc lt
 
-back_not_lt : (o p : Ordering) → p ≡ ordering_reverse o → is_lt o ≡ false → is_gt p ≡ false
+pub back_not_lt : (o p : Ordering) → p ≡ ordering_reverse o → is_lt o ≡ false → is_gt p ≡ false
 back_not_lt Less p rev lt = cc lt
 back_not_lt Equal p rev lt = ap is_gt rev
 back_not_lt Greater p rev lt = ap is_gt rev

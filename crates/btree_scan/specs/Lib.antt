@@ -1,4 +1,7 @@
+pub mod Descents
+pub mod Directions
 pub mod Positions
 pub mod Spans
-pub mod Walking
+pub mod Unread
 pub mod Walks
+pub mod Ways

@@ -1,5 +1,5 @@
--- Which places the elements of a range have, and the leaf of a place.
-use Rattle.std.specs.Prelude.{◌≡◌, ℕ, ◌+◌, ◌-◌, ◌≤◌, ◌<◌, List, length, filter, slice_range, if◌then◌else◌}
+-- Which places the elements of a range have.
+use Rattle.std.specs.Prelude.{◌≡◌, ℕ, ◌+◌, ◌≤◌, List, length, filter, slice_range, if◌then◌else◌}
 use Rattle.arc_core.specs.declared.bkeys.Bkey.{Bkey}
 use Rattle.arc_core.specs.declared.bkeys.BkeyRange.{BkeyRange}
 use Rattle.arc_core.specs.declared.trees.Elem.{Elem}
@@ -16,10 +16,3 @@ pub record ArePlaces (range : BkeyRange) (elements : List Elem) (low high : ℕ)
   pub order : low ≤ high
   pub within : high ≤ length elements
   pub elements_are : filter (λ element. is_in_range range element.bkey) elements ≡ slice_range elements low high
-
--- Some elements that stand next to each other, with the place at this offset among them.
-pub record IsLeafAt (elements : List Elem) (place : ℕ) (leaf : List Elem) (offset : ℕ) : Type 0 where
-  pub inside : offset < length leaf
-  pub before : offset ≤ place
-  pub within : place - offset + length leaf ≤ length elements
-  pub leaf_is : leaf ≡ slice_range elements (place - offset) (place - offset + length leaf)

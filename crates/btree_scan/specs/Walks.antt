@@ -1,16 +1,18 @@
 -- What is left of a walk along a range.
-use Rattle.std.specs.Prelude.{◌≤◌, if◌then◌else◌, List, length, reverse, slice_range}
+use Rattle.std.specs.Prelude.{List, filter, length}
 use Rattle.arc_core.specs.declared.trees.Elem.{Elem}
-use Rattle.btree_scan.specs.Walking.{AreAtHand}
+use Rattle.btree_scan.specs.Directions.{joined, facing, is_within}
+use Rattle.btree_scan.specs.Ways.{ahead, credit_of, IsWay}
+use Rattle.btree_scan.specs.Unread.{Unread}
 use Rattle.btree_scan.specs.declared.cursors.Cursor.TheInside.{Inside}
 
--- the elements that are left, in the walk's direction
-abbrev pub left_in : Inside → List Elem
-left_in walk =
-    if walk.down then reverse (slice_range walk.tree.now.elements walk.low walk.high) else slice_range walk.tree.now.elements walk.low walk.high
+-- the elements at hand and those ahead that the range has, in the walk's direction; and what is saved up
+abbrev pub unread_of : Inside → Unread
+unread_of walk = record {
+  left = facing walk.down (joined walk.down walk.elements.now (filter (is_within walk.down walk.far) (ahead walk.down walk.way)));
+  credit = credit_of walk.down (length walk.elements.now) walk.way;
+}
 
 -- What holds of a walk.
-pub record IsWalk (walk : Inside) : Type 0 where
-  pub order : walk.low ≤ walk.high
-  pub within : walk.high ≤ length walk.tree.now.elements
-  pub at_hand : AreAtHand walk.down walk.low walk.high walk.tree.now.elements walk.elements.now
+abbrev pub IsWalk : Inside → Type 0
+IsWalk walk = IsWay walk.down walk.way

@@ -1,41 +1,43 @@
 //! The elements of a range, one after another.
-ghost use Rattle.std.specs.Prelude.{◌≡◌, ◌+◌, ◌*◌, ◌≤◌, ◌<◌, true, false, length, MatchOption, [], ◌∷◌, ◌^◌, Some, ⊤};
+ghost use Rattle.std.specs.Prelude.{◌≡◌, ◌+◌, ◌*◌, ◌≤◌, ◌<◌, length, MatchOption, [], ◌∷◌, ◌^◌, Some};
 ghost use Rattle.arc_core.specs.BkeyOrder.{greater_end, is_down, lesser_end, span};
 ghost use Rattle.std.specs.List.{filter as filter_of};
 ghost use Rattle.arc_core.specs.TreeReading.{is_selected, selected};
 ghost use Rattle.btree_nodes.specs.Contents.{MayBeHigh};
-ghost use Rattle.btree_scan.specs.Spans.{number_up_to, ArePlaces, IsLeafAt};
-ghost use Rattle.btree_scan.specs.Walking.{AreAtHand};
+ghost use Rattle.btree_scan.specs.Spans.{number_up_to, ArePlaces};
 ghost use Rattle.arc_core.specs.TreeContents.{IsRising, place_of};
 
+use crate::leaves::{cut_at_end, elements_within, know_count, leaf_of, next_leaf};
 use crate::positions::{Position, position_of};
+use crate::way::{Way, split_near};
 use arc_core::{Bkey, BkeyRange, Elem, Filter};
-use btree_nodes::{Part, Steps, Tree, child_at};
+use btree_nodes::{Steps, Tree};
 use eflag_filter::passes;
 use std::marker::Model;
 use std::sync::ledger::Ledger;
 
 /// The elements of a range that are not handed out yet, in the range's direction.
+///
+/// Contracts see these elements as `left`, and as `credit` how many eighths of a step are saved up for nodes that are still
+/// to be entered. Each element that is handed out pays an eighth. So a cursor that has handed out E elements has entered at
+/// most 2 h + E / 8 nodes of a tree of height h, those of `new` too.
 #[derive(Drop)]
 pub struct Cursor<'t> {
     tree: &'t Tree,
     down: bool,
-    // The places of the elements that are left: from `low` to before `high`.
-    low: u32,
-    high: u32,
-    // Elements of the leaf of the next one: from place `low` on or, downwards, up to before place `high`.
+    far: Bkey,
+    // Those of the leaf that the range has and that are left.
     elements: &'t [Elem],
+    way: Way<'t>,
 }
 
 impl<'t> Model for Cursor<'t> {
-    ghost use Rattle.std.specs.Prelude.{List};
-    ghost use Rattle.arc_core.specs.declared.trees.Elem.{Elem};
+    ghost use Rattle.btree_scan.specs.Unread.{Unread};
+    ghost use Rattle.btree_scan.specs.Walks.{unread_of, IsWalk};
 
-    ghost Value = { List Elem };
+    ghost Value = { Unread };
 
-    ghost use Rattle.btree_scan.specs.Walks.{left_in, IsWalk};
-
-    ghost view = { left_in };
+    ghost view = { unread_of };
 
     ghost invariant = { IsWalk };
 }
@@ -97,120 +99,49 @@ fn places<L: Ledger>(tree: &Tree, range: &BkeyRange, steps: &mut Steps<L>) -> (u
     (low, high.max(low))
 }
 
-/// The leaf of a place, and the place in it.
-fn leaf_at<'t, L: Ledger>(tree: &'t Tree, place: u32, steps: &mut Steps<L>) -> (&'t [Elem], usize)
-    requires { place < length tree.now.elements }
-    ensures leaf { IsLeafAt tree.now.elements place result.0.now result.1 }
-    ensures steps { steps.new ≡ steps.old + tree.now.height }
-{
-    let mut offset = place as usize;
-    let mut total = tree.count() as usize;
-    let mut part = tree.part(None, steps);
-    while let Part::Branch(children) = part {
-        let (index, below) = child_at(children, total, offset);
-        let child = &children[index];
-        offset = below;
-        total = child.count() as usize;
-        part = tree.part(Some(child), steps);
-    }
-    let Part::Leaf(elements) = part else {
-        unreachable!()
-    };
-    (elements, offset)
-}
-
-/// The elements at hand from a place on, or where there is none those of its leaf.
-fn from_place<'t, L: Ledger>(
-    tree: &'t Tree,
-    low: u32,
-    elements: &'t [Elem],
-    steps: &mut Steps<L>,
-) -> &'t [Elem]
-    requires place { low < length tree.now.elements }
-    requires at_hand { AreAtHand false low low tree.now.elements elements.now }
-    ensures at_hand { AreAtHand false low low tree.now.elements result.now }
-    ensures some { 1 ≤ length result.now }
-    ensures steps { steps.new ≤ steps.old + tree.now.height }
-{
-    if !elements.is_empty() {
-        return elements;
-    }
-    let (leaf, offset) = leaf_at(tree, low, steps);
-    &leaf[offset..]
-}
-
-/// The elements at hand up to before a place, or where there is none those of the leaf.
-fn up_to_place<'t, L: Ledger>(
-    tree: &'t Tree,
-    high: u32,
-    elements: &'t [Elem],
-    steps: &mut Steps<L>,
-) -> &'t [Elem]
-    requires some { 1 ≤ high }
-    requires place { high ≤ length tree.now.elements }
-    requires at_hand { AreAtHand true high high tree.now.elements elements.now }
-    ensures at_hand { AreAtHand true high high tree.now.elements result.now }
-    ensures some { 1 ≤ length result.now }
-    ensures steps { steps.new ≤ steps.old + tree.now.height }
-{
-    if !elements.is_empty() {
-        return elements;
-    }
-    let (leaf, offset) = leaf_at(tree, high - 1, steps);
-    &leaf[..offset + 1]
-}
-
 impl<'t> Cursor<'t> {
-    /// Stands before the first element of a range. Takes no memory.
+    /// Stands before the first element of a range. Enters as many nodes as the tree is high, and takes no memory.
     pub fn new<L: Ledger>(tree: &'t Tree, range: &BkeyRange, steps: &mut Steps<L>) -> Cursor<'t>
-        ensures elements { result ≡ span (λ element. element.bkey) range.now tree.now.elements }
-        ensures steps { steps.new ≡ steps.old + 2 * tree.now.height }
+        ensures elements { result.left ≡ span (λ element. element.bkey) range.now tree.now.elements }
+        ensures steps { 8 * steps.new + result.credit ≤ 8 * steps.old + 16 * tree.now.height }
+        ensures high { MayBeHigh (length tree.now.elements) tree.now.height }
     {
-        let (low, high) = places(tree, range, steps);
-        Cursor::over(tree, range, low, high)
-    }
-
-    /// Stands before the first element of a range, whose elements stand from place `low` to before place `high`.
-    fn over(tree: &'t Tree, range: &BkeyRange, low: u32, high: u32) -> Cursor<'t>
-        requires { ArePlaces range.now tree.now.elements low high }
-        ensures elements { result ≡ span (λ element. element.bkey) range.now tree.now.elements }
-        ensures count { length result + low ≡ high }
-    {
+        let down = is_down(range);
+        let mut way = Way::new();
+        let leaf = leaf_of(tree, &range.first, down, &mut way, steps);
+        let from_first = elements_within(leaf, &range.first, !down);
+        let elements = cut_at_end(from_first, &range.last, down, &mut way);
         Cursor {
             tree,
-            down: is_down(range),
-            low,
-            high,
-            elements: &[],
+            down,
+            far: range.last,
+            elements,
+            way,
         }
     }
 
     /// The next element of the range; `None` where all were handed out. Takes no memory.
     ///
-    /// It enters no node while elements of one leaf are left, and else those from the root to the next leaf.
+    /// It enters no node while elements of one leaf are left.
     pub fn next<L: Ledger>(&mut self, steps: &mut Steps<L>) -> Option<&'t Elem>
-        ensures elements { MatchOption result ((self.old ≡ []) × (self.new ≡ [])) (λ element. self.old ≡ element.now ∷ self.new) }
+        ensures elements { MatchOption result ((self.old.left ≡ []) × (self.new.left ≡ [])) (λ element. self.old.left ≡ element.now ∷ self.new.left) }
+        ensures steps { 8 * steps.new + self.new.credit + length self.new.left ≤ 8 * steps.old + self.old.credit + length self.old.left }
     {
-        if self.low == self.high {
-            return None;
+        if let Some((element, others)) = split_near(self.elements, self.down) {
+            self.elements = others;
+            return Some(element);
         }
-        if self.down {
-            let elements = up_to_place(self.tree, self.high, self.elements, steps);
-            let last = elements.len() - 1;
-            self.elements = &elements[..last];
-            self.high -= 1;
-            return Some(&elements[last]);
-        }
-        let elements = from_place(self.tree, self.low, self.elements, steps);
-        self.elements = &elements[1..];
-        self.low += 1;
-        Some(&elements[0])
+        let elements = next_leaf(self.tree, &self.far, self.down, &mut self.way, steps);
+        let (element, others) = split_near(elements, self.down)?;
+        self.elements = others;
+        Some(element)
     }
 }
 
 /// How many elements of a range pass the filter, where there is one. Takes no memory.
 ///
-/// Without a filter it enters twice as many nodes as the tree is high; with one it walks along the range.
+/// Without a filter it enters twice as many nodes as the tree of height h is high; with one it walks along the range, and
+/// enters at most 2 h + E / 8 where the range has E elements.
 pub fn count_in<L: Ledger>(
     tree: &Tree,
     range: &BkeyRange,
@@ -218,13 +149,18 @@ pub fn count_in<L: Ledger>(
     steps: &mut Steps<L>,
 ) -> u32
     ensures count { result ≡ length (selected range.now filter.now tree.now.elements) }
-    ensures steps { MatchOption filter.now (steps.new ≡ steps.old + 2 * tree.now.height) (λ _. ⊤) }
+    ensures steps { MatchOption filter.now (steps.new ≡ steps.old + 2 * tree.now.height) (λ _. 8 * steps.new ≤ 8 * steps.old + 16 * tree.now.height + length (span (λ element. element.bkey) range.now tree.now.elements)) }
     ensures high { MayBeHigh (length tree.now.elements) tree.now.height }
 {
-    let (low, high) = places(tree, range, steps);
     match filter {
-        None => high - low,
-        Some(filter) => count_passing(Cursor::over(tree, range, low, high), filter, steps),
+        None => {
+            let (low, high) = places(tree, range, steps);
+            high - low
+        }
+        Some(filter) => {
+            know_count(tree);
+            count_passing(Cursor::new(tree, range, steps), filter, steps)
+        }
     }
 }
 
@@ -234,8 +170,9 @@ fn count_passing<L: Ledger>(
     filter: &Filter<'_>,
     steps: &mut Steps<L>,
 ) -> u32
-    requires { length cursor < 2 ^ 32 }
-    ensures { result ≡ length (filter_of (is_selected (Some filter.now)) cursor.entry) }
+    requires { length cursor.left < 2 ^ 32 }
+    ensures count { result ≡ length (filter_of (is_selected (Some filter.now)) cursor.entry.left) }
+    ensures steps { 8 * steps.new ≤ 8 * steps.old + cursor.entry.credit + length cursor.entry.left }
 {
     let mut count = 0;
     while let Some(element) = cursor.next(steps) {

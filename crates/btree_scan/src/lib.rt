@@ -2,9 +2,11 @@
 #![tactic(auto)]
 
 mod cursors;
+mod leaves;
 mod positions;
 #[cfg(test)]
 mod tests;
+mod way;
 
 pub use cursors::{Cursor, count_in};
 pub use positions::{Position, at_position, position_of};

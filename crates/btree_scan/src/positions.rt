@@ -19,7 +19,7 @@ pub enum Position {
 }
 
 /// Whether an element in the bkey's place has it.
-fn is_at(elements: &[Elem], place: usize, bkey: &Bkey) -> bool
+pub(crate) fn is_at(elements: &[Elem], place: usize, bkey: &Bkey) -> bool
     requires rising { IsRising elements.now }
     requires place { place ≡ place_of bkey.now elements.now }
     ensures { result ≡ has_bkey bkey.now elements.now }

@@ -192,6 +192,48 @@ fn check_ranges<L: Ledger, R: Abort>(
     Ok(())
 }
 
+#[test]
+fn walks_2000_both_ways_in_few_steps(rt: HostRuntime) -> Result<(), Fail> {
+    check_walks::<Brand, HostRuntime>(&rt, rt.alloc(), Blank::new(1))?;
+    Ok(())
+}
+
+// Walks along the whole of a tree of the odd numbers below 4,000, upwards and downwards.
+fn check_walks<L: Ledger, R: Abort>(rt: &R, alloc: Global, blank: Blank) -> Result<(), NoMemory>
+    requires name { blank.name ≡ L.name }
+    requires parts { blank.parts ≡ L.parts }
+    requires one { blank.parts ≡ 1 }
+{
+    let mut steps = Steps::<L>::new(blank);
+    let list = odd_numbers(alloc, 2_000)?;
+    let tree = tree_of(rt, alloc, &list, &mut steps)?;
+    assert_eq!(rt; tree.count(), 2_000);
+    assert_eq!(rt;
+        sum_in_258(&tree, &range_of(0, u64::MAX), &mut steps),
+        4_000_000
+    );
+    assert_eq!(rt;
+        sum_in_258(&tree, &range_of(u64::MAX, 0), &mut steps),
+        4_000_000
+    );
+    Ok(())
+}
+
+// The sum of the numbers of a range in a tree of 2,000, modulo 2^64, in 258 steps.
+fn sum_in_258<L: Ledger>(tree: &Tree, range: &BkeyRange, steps: &mut Steps<L>) -> u64
+    requires { length tree.now.elements ≡ 2000 }
+    ensures { steps.new ≤ steps.old + 258 }
+{
+    let mut sum = 0u64;
+    let mut cursor = Cursor::new(tree, range, steps);
+    while let Some(element) = cursor.next(steps) {
+        if let Bkey::Number(number) = element.bkey {
+            sum = sum.wrapping_add(number);
+        }
+    }
+    sum
+}
+
 fn range_of(first: u64, last: u64) -> BkeyRange {
     BkeyRange {
         first: Bkey::Number(first),

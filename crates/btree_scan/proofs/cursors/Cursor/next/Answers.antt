@@ -1,17 +1,18 @@
-use Rattle.std.proofs.Common.{arith}
-use Rattle.btree_scan.proofs.LeafLemmas.{walk_down, walk_up}
+use Rattle.std.proofs.Common.{ap, sym, ◌∙◌}
+use Rattle.std.specs.List.{filter}
+use Rattle.btree_scan.specs.Unread.{Unread}
+use Rattle.btree_scan.specs.Directions.{facing, joined, is_within}
+use Rattle.btree_scan.specs.Ways.{ahead}
+use Rattle.btree_scan.proofs.DirectionLemmas.{handed, none_joined}
 use Rattle.btree_scan.proofs.cursors.Cursor.next.Goals as goal
 
-pub returns-then-self-2 : goal.returns-then-self-2
-returns-then-self-2 g c =
-    record {
-      elements = walk_down c.self.inside.down (cc) c.self.inside.low c.self.inside.high c.self.inside.tree.now.elements c.up_to_place-elements.result.now c.index-elements-last.result c.args.self.now c.self.view_is
-          (omega arith) c.self.invariant.within c.up_to_place-elements.ensures.some c.up_to_place-elements.ensures.at_hand c.index-elements-last.is;
-    }
-
-pub returns : goal.returns
-returns g c =
-    record {
-      elements = walk_up c.self.inside.down c.if-self-2.false c.self.inside.low c.self.inside.high c.self.inside.tree.now.elements c.from_place-elements.result.now c.index-elements-0.result c.args.self.now c.self.view_is
-          (omega arith) c.self.invariant.within c.from_place-elements.ensures.some c.from_place-elements.ensures.at_hand c.index-elements-0.is;
-    }
+pub returns-clause-elements : goal.returns-clause-elements
+returns-clause-elements g c =
+    let inside = c.self.inside in
+    let down = inside.down in
+    let p = is_within down inside.far in
+    let next = c.next_leaf-elements in
+    sym (ap (λ (unread : Unread). unread.left) c.self.view_is)
+    ∙ (ap (λ xs. facing down (joined down xs (filter p (ahead down inside.way)))) c.in_default.ensures
+    ∙ (ap (facing down) (none_joined down (filter p (ahead down inside.way)) ∙ sym next.ensures.elements)
+    ∙ handed down next.result.now c.in_ok-element.element.now c.in_ok-element.others.now (filter p (ahead down next.new.way)) c.in_ok-element.ensures))
