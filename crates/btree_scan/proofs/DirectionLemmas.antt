@@ -8,7 +8,7 @@ use Rattle.arc_core.specs.TreeContents.{IsRising}
 use Rattle.btree_nodes.specs.Subtree.{Subtree, all_elements}
 use Rattle.btree_nodes.proofs.ChildrenLemmas.{all_append, all_one}
 use Rattle.btree_nodes.proofs.WayLemmas.{rising_behind, rising_front}
-use Rattle.btree_scan.specs.Directions.{joined, facing}
+use Rattle.btree_scan.specs.Directions.{joined, facing, AreSides}
 
 -- a range's elements in either direction
 pub as_many : (down : Bool) (xs : List Elem) → length (if down then reverse xs else xs) ≡ length xs
@@ -61,3 +61,12 @@ rising_farther false a b rising = rising_behind a b rising
 pub handed : (down : Bool) (xs : List Elem) (x : Elem) (others more : List Elem) → xs ≡ joined down (x ∷ []) others → facing down (joined down xs more) ≡ x ∷ facing down (joined down others more)
 handed true xs x others more is = ap (λ ys. reverse (more ++ ys)) is ∙ (ap reverse (sym (append_assoc more others (x ∷ []))) ∙ reverse-append (more ++ others) (x ∷ []))
 handed false xs x others more is = ap (λ ys. ys ++ more) is
+
+-- where both sides are empty nothing is at hand
+pub none_at_hand : (down : Bool) (rising falling : List Elem) → rising ≡ [] → falling ≡ [] → (if down then falling else rising) ≡ []
+none_at_hand true rising falling none nothing = nothing
+none_at_hand false rising falling none nothing = none
+
+pub side_at_hand : (down : Bool) (elements rising falling : List Elem) → AreSides down elements rising falling → (if down then falling else rising) ≡ elements
+side_at_hand true elements rising falling sides = sides.1
+side_at_hand false elements rising falling sides = sides.0

@@ -1,5 +1,5 @@
 -- The direction of a walk, and the far end of its range.
-use Rattle.std.specs.Prelude.{ℕ, ◌+◌, Bool, true, false, not, List, ◌++◌, take, drop, reverse}
+use Rattle.std.specs.Prelude.{◌≡◌, ℕ, ◌+◌, Bool, true, false, not, List, [], ◌++◌, take, drop, reverse}
 use Rattle.std.specs.Ordering.{is_gt}
 use Rattle.arc_core.specs.declared.bkeys.Bkey.{Bkey}
 use Rattle.arc_core.specs.declared.trees.Elem.{Elem}
@@ -24,3 +24,8 @@ beyond false place list = drop (place + 1) list
 abbrev pub is_within : Bool → Bkey → Elem → Bool
 is_within true end element = not (is_gt (bkey_cmp end element.bkey))
 is_within false end element = not (is_gt (bkey_cmp element.bkey end))
+
+-- The elements at hand stand on the side of the walk's direction, and none on the other side.
+abbrev pub AreSides : Bool → (elements rising falling : List Elem) → Type 0
+AreSides true elements rising falling = (rising ≡ []) × (falling ≡ elements)
+AreSides false elements rising falling = (rising ≡ elements) × (falling ≡ [])

@@ -4,6 +4,7 @@ ghost use Rattle.arc_core.specs.BkeyOrder.{greater_end, is_down, lesser_end, spa
 ghost use Rattle.std.specs.List.{filter as filter_of};
 ghost use Rattle.arc_core.specs.TreeReading.{is_selected, selected};
 ghost use Rattle.btree_nodes.specs.Contents.{MayBeHigh};
+ghost use Rattle.btree_scan.specs.Directions.{AreSides};
 ghost use Rattle.btree_scan.specs.Spans.{number_up_to, ArePlaces};
 ghost use Rattle.arc_core.specs.TreeContents.{IsRising, place_of};
 
@@ -26,8 +27,9 @@ pub struct Cursor<'t> {
     tree: &'t Tree,
     down: bool,
     far: Bkey,
-    // Those of the leaf that the range has and that are left.
-    elements: &'t [Elem],
+    // The elements of the leaf that the range has and that are left: in a walk upwards these, downwards those below.
+    rising: &'t [Elem],
+    falling: &'t [Elem],
     way: Way<'t>,
 }
 
@@ -99,6 +101,17 @@ fn places<L: Ledger>(tree: &Tree, range: &BkeyRange, steps: &mut Steps<L>) -> (u
     (low, high.max(low))
 }
 
+/// The elements of a walk upwards and those of a walk downwards, of which one has none. So a step within a leaf asks for
+/// no direction.
+fn sides<'t>(elements: &'t [Elem], down: bool) -> (&'t [Elem], &'t [Elem])
+    ensures { AreSides down elements.now result.0.now result.1.now }
+{
+    if down {
+        return (&[], elements);
+    }
+    (elements, &[])
+}
+
 impl<'t> Cursor<'t> {
     /// Stands before the first element of a range. Enters as many nodes as the tree is high, and takes no memory.
     pub fn new<L: Ledger>(tree: &'t Tree, range: &BkeyRange, steps: &mut Steps<L>) -> Cursor<'t>
@@ -111,11 +124,13 @@ impl<'t> Cursor<'t> {
         let leaf = leaf_of(tree, &range.first, down, &mut way, steps);
         let from_first = elements_within(leaf, &range.first, !down);
         let elements = cut_at_end(from_first, &range.last, down, &mut way);
+        let (rising, falling) = sides(elements, down);
         Cursor {
             tree,
             down,
             far: range.last,
-            elements,
+            rising,
+            falling,
             way,
         }
     }
@@ -127,13 +142,19 @@ impl<'t> Cursor<'t> {
         ensures elements { MatchOption result ((self.old.left ≡ []) × (self.new.left ≡ [])) (λ element. self.old.left ≡ element.now ∷ self.new.left) }
         ensures steps { 8 * steps.new + self.new.credit + length self.new.left ≤ 8 * steps.old + self.old.credit + length self.old.left }
     {
-        if let Some((element, others)) = split_near(self.elements, self.down) {
-            self.elements = others;
-            return Some(element);
+        if let Some((first, others)) = split_near(self.rising, false) {
+            self.rising = others;
+            return Some(first);
+        }
+        if let Some((last, others)) = split_near(self.falling, true) {
+            self.falling = others;
+            return Some(last);
         }
         let elements = next_leaf(self.tree, &self.far, self.down, &mut self.way, steps);
         let (element, others) = split_near(elements, self.down)?;
-        self.elements = others;
+        let (rising, falling) = sides(others, self.down);
+        self.rising = rising;
+        self.falling = falling;
         Some(element)
     }
 }

@@ -1,9 +1,9 @@
 use Rattle.std.proofs.Common.{ap, sym, ◌∙◌, subst, arith}
 use Rattle.std.specs.List.{filter}
 use Rattle.arc_core.specs.TreeContents.{IsRising}
-use Rattle.btree_scan.specs.Directions.{facing, joined, is_within}
+use Rattle.btree_scan.specs.Directions.{facing, joined, is_within, AreSides}
 use Rattle.btree_scan.specs.Ways.{ahead}
-use Rattle.btree_scan.proofs.DirectionLemmas.{rising_near}
+use Rattle.btree_scan.proofs.DirectionLemmas.{rising_near, side_at_hand}
 use Rattle.btree_scan.proofs.EndLemmas.{from_near_rising, spanned}
 use Rattle.btree_scan.proofs.NextLemmas.{cut_way}
 use Rattle.btree_scan.proofs.cursors.Cursor.new.Goals as goal
@@ -26,7 +26,13 @@ invariant_of-result g c =
     let leaf = c.leaf_of-leaf in
     let first = c.elements_within-from_first in
     let rising = subst (λ xs. IsRising (joined down xs (ahead down leaf.new.way))) (sym first.ensures) (from_near_rising down c.args.range.now.first leaf.result.now (ahead down leaf.new.way) leaf.ensures.rising) in
-    cut_way down leaf.new.way c.cut_at_end-elements.new.way first.result.now c.cut_at_end-elements.result.now rising leaf.ensures.levels (omega (arith, leaf.ensures.depth, leaf.ensures.low)) c.cut_at_end-elements.ensures.cut
+    let rises = c.sides.result.0.now in
+    let falls = c.sides.result.1.now in
+    let side = side_at_hand down c.cut_at_end-elements.result.now rises falls c.sides.ensures in
+    record {
+      way = cut_way down leaf.new.way c.cut_at_end-elements.new.way first.result.now c.cut_at_end-elements.result.now rising leaf.ensures.levels (omega (arith, leaf.ensures.depth, leaf.ensures.low)) c.cut_at_end-elements.ensures.cut;
+      sides = subst (λ xs. AreSides down xs rises falls) (sym side) c.sides.ensures;
+    }
 
 pub returns-clause-elements : goal.returns-clause-elements
 returns-clause-elements g c =
@@ -35,5 +41,7 @@ returns-clause-elements g c =
     let leaf = c.leaf_of-leaf in
     let p = is_within down range.last in
     let more = ahead down leaf.new.way in
-    ap (facing down) (c.cut_at_end-elements.ensures.elements ∙ ap (filter p) (ap (λ xs. joined down xs more) c.elements_within-from_first.ensures ∙ sym leaf.ensures.elements))
+    let side = side_at_hand down c.cut_at_end-elements.result.now c.sides.result.0.now c.sides.result.1.now c.sides.ensures in
+    ap (λ xs. facing down (joined down xs (filter p (ahead down c.cut_at_end-elements.new.way)))) side
+    ∙ ap (facing down) (c.cut_at_end-elements.ensures.elements ∙ ap (filter p) (ap (λ xs. joined down xs more) c.elements_within-from_first.ensures ∙ sym leaf.ensures.elements))
     ∙ spanned range down c.args.tree.now.elements c.is_down-down.ensures
