@@ -1,12 +1,12 @@
 -- What a walk saves up for the nodes that it enters.
-use Rattle.std.proofs.Common.{◌≡◌, ◌⊎◌, ℕ, Bool, if◌then◌else◌, ◌==◌, ◌+◌, ◌-◌, ◌*◌, ◌/◌, ◌<◌, ◌≤◌, List, [], ◌∷◌, length, ap, sym, ◌∙◌, inl, inr, arith}
+use Rattle.std.proofs.Common.{◌≡◌, ℕ, Bool, if◌then◌else◌, ◌==◌, ◌+◌, ◌-◌, ◌*◌, ◌/◌, ◌<◌, ◌≤◌, List, [], length, ap, ◌∙◌, inl, inr, arith}
 use Rattle.std.specs.Borrow.{Bor}
 use Rattle.std.proofs.lemmas.Bool.{cases_lt}
 use Rattle.std.proofs.lemmas.Bool.Decides.{nat_tests}
 use Rattle.arc_core.specs.declared.trees.Elem.{Elem}
 use Rattle.btree_nodes.specs.Subtree.{Subtree}
 use Rattle.btree_nodes.proofs.BalanceLemmas.{child_some}
-use Rattle.btree_scan.specs.Descents.{IsCut, IsNearest, IsNearLeaf}
+use Rattle.btree_scan.specs.Descents.{IsNearest, IsNearLeaf}
 use Rattle.btree_scan.specs.Ways.{ahead, beside, credit_of}
 use Rattle.btree_scan.proofs.DirectionLemmas.{length_joined}
 

@@ -1,5 +1,5 @@
 -- A walk on its way from leaf to leaf.
-use Rattle.std.proofs.Common.{◌≡◌, ℕ, Bool, true, false, not, if◌then◌else◌, ◌+◌, ◌-◌, ◌*◌, ◌^◌, ◌<◌, ◌≤◌, List, [], ◌∷◌, ◌++◌, length, get_or, take, drop, refl, ap, sym, ◌∙◌, subst, inl, inr, arith}
+use Rattle.std.proofs.Common.{◌≡◌, ℕ, Bool, true, false, not, if◌then◌else◌, ◌+◌, ◌-◌, ◌^◌, ◌<◌, ◌≤◌, List, [], ◌∷◌, ◌++◌, length, get_or, take, drop, refl, ap, sym, ◌∙◌, subst, inl, inr, arith}
 use Rattle.std.specs.List.{All, filter}
 use Rattle.std.specs.Borrow.{Bor}
 use Rattle.std.proofs.lemmas.Bool.{cases_lt}
@@ -9,16 +9,16 @@ use Rattle.arc_core.specs.declared.trees.Elem.{Elem}
 use Rattle.arc_core.specs.TreeContents.{IsRising}
 use Rattle.btree_nodes.specs.Subtree.{Subtree, all_elements, height_over, IsChildAt}
 use Rattle.btree_nodes.specs.PartRules.{AreChildren}
-use Rattle.btree_nodes.specs.Ways.{IsWayTo, has_bkey}
+use Rattle.btree_nodes.specs.Ways.{IsWayTo}
 use Rattle.btree_nodes.proofs.BalanceLemmas.{child_fill}
 use Rattle.btree_nodes.proofs.ChildrenLemmas.{all_split}
 use Rattle.btree_nodes.proofs.WayLemmas.{rising_behind, rising_front}
 use Rattle.btree_scan.specs.Descents.{IsNearest}
 use Rattle.btree_scan.specs.Directions.{beyond, joined, is_within}
 use Rattle.btree_scan.specs.Ways.{ahead, beside, AreLevels}
-use Rattle.btree_scan.proofs.DirectionLemmas.{joined_assoc, none_joined, length_joined, rising_near, rising_farther}
+use Rattle.btree_scan.proofs.DirectionLemmas.{joined_assoc, none_joined, length_joined, rising_near}
 use Rattle.btree_scan.proofs.LevelLemmas.{ahead_push, beside_push, length_push, levels_push, levels_pop, near_elements, all_near}
-use Rattle.btree_scan.proofs.EndLemmas.{Turns, turning, turns, begun, begun_rising}
+use Rattle.btree_scan.proofs.EndLemmas.{turning, turns, begun, begun_rising}
 
 -- UP TO THE NEAREST CHILD
 

@@ -1,12 +1,12 @@
 -- Lists in the direction of a walk.
-use Rattle.std.proofs.Common.{◌≡◌, ◌⊎◌, ℕ, Bool, true, false, not, if◌then◌else◌, ◌+◌, ◌<◌, ◌≤◌, List, [], ◌∷◌, ◌++◌, length, reverse, refl, ap, sym, ◌∙◌, arith}
+use Rattle.std.proofs.Common.{◌≡◌, Bool, true, false, if◌then◌else◌, ◌+◌, List, [], ◌∷◌, ◌++◌, length, reverse, refl, ap, sym, ◌∙◌, arith}
 use Rattle.std.specs.List.{filter}
 use Rattle.std.proofs.lemmas.List.{length-append, append_assoc, append-nil, reverse-append, length-reverse}
 use Rattle.std.proofs.lemmas.List.Elements.{filter-append}
 use Rattle.arc_core.specs.declared.trees.Elem.{Elem}
 use Rattle.arc_core.specs.TreeContents.{IsRising}
 use Rattle.btree_nodes.specs.Subtree.{Subtree, all_elements}
-use Rattle.btree_nodes.proofs.ChildrenLemmas.{all_append, all_one}
+use Rattle.btree_nodes.proofs.ChildrenLemmas.{all_append}
 use Rattle.btree_nodes.proofs.WayLemmas.{rising_behind, rising_front}
 use Rattle.btree_scan.specs.Directions.{joined, facing, AreSides}
 

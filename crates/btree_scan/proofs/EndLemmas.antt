@@ -1,5 +1,5 @@
 -- Where a walk comes to a bkey among elements by rising bkeys.
-use Rattle.std.proofs.Common.{◌≡◌, ◌⊎◌, ℕ, Bool, true, false, not, cond, if◌then◌else◌, ◌+◌, ◌-◌, ◌<◌, ◌≤◌, List, [], ◌∷◌, ◌++◌, ◌&&◌, length, get_or, take, drop, reverse, refl, ap, sym, ◌∙◌, subst, inl, inr, arith}
+use Rattle.std.proofs.Common.{◌≡◌, ℕ, Bool, true, false, not, cond, if◌then◌else◌, ◌+◌, ◌-◌, ◌<◌, ◌≤◌, List, [], ◌∷◌, ◌++◌, ◌&&◌, length, get_or, take, drop, reverse, refl, ap, sym, ◌∙◌, subst, inl, inr, arith}
 use Rattle.std.specs.List.{between, filter}
 use Rattle.std.proofs.lemmas.Bool.{cases_lt}
 use Rattle.std.proofs.lemmas.List.{length-append, append-nil, append_assoc, get_or_append_left, get_or-append-add, take-append-drop, take_all, length-drop}
@@ -11,7 +11,6 @@ use Rattle.std.specs.Ordering.{is_gt}
 use Rattle.arc_core.specs.BkeyOrder.{bkey_cmp, is_down, is_in_range, span}
 use Rattle.arc_core.specs.BkeyLaws.{bkey_cmp_total}
 use Rattle.arc_core.specs.TreeContents.{IsRising, place_of}
-use Rattle.btree_nodes.specs.Ways.{has_bkey}
 use Rattle.btree_nodes.proofs.TreeLemmas.{place_splits}
 use Rattle.btree_nodes.proofs.WayLemmas.{rising_behind, rising_front}
 use Rattle.btree_scan.specs.Directions.{joined, facing, is_within}

@@ -1,10 +1,9 @@
 -- Levels of a way, and the children on them.
-use Rattle.std.proofs.Common.{◌≡◌, ℕ, Bool, true, false, Some, ◌+◌, ◌<◌, ◌≤◌, List, [], ◌∷◌, ◌++◌, length, refl, ap, sym, ◌∙◌, subst, arith}
+use Rattle.std.proofs.Common.{◌≡◌, ℕ, Bool, true, false, Some, ◌+◌, List, [], ◌∷◌, ◌++◌, length, refl, ap, sym, ◌∙◌, subst, arith}
 use Rattle.std.specs.List.{All}
 use Rattle.std.specs.Borrow.{Bor}
 use Rattle.std.proofs.lemmas.List.{length-append}
 use Rattle.std.proofs.lemmas.List.Elements.{All-head, All-tail, All-pop}
-use Rattle.arc_core.specs.declared.trees.Elem.{Elem}
 use Rattle.btree_nodes.specs.Subtree.{Subtree, all_elements, IsChildAt}
 use Rattle.btree_nodes.proofs.ChildrenLemmas.{all_one}
 use Rattle.btree_scan.specs.Directions.{joined}

@@ -1,12 +1,12 @@
 -- What stands ahead of a walk in its next leaf.
-use Rattle.std.proofs.Common.{◌≡◌, ◌⊎◌, ℕ, Bool, ◌+◌, ◌-◌, ◌*◌, ◌/◌, ◌<◌, ◌≤◌, List, [], ◌∷◌, length, refl, ap, sym, ◌∙◌, subst, inl, inr, arith}
+use Rattle.std.proofs.Common.{◌≡◌, Bool, ◌+◌, ◌*◌, ◌≤◌, List, [], length, ap, sym, ◌∙◌, subst, inl, inr, arith}
 use Rattle.std.specs.Borrow.{Bor}
 use Rattle.arc_core.specs.declared.trees.Elem.{Elem}
 use Rattle.arc_core.specs.TreeContents.{IsRising}
 use Rattle.btree_nodes.specs.Subtree.{Subtree}
 use Rattle.btree_scan.specs.Descents.{IsCut, IsNearest, IsNearLeaf}
 use Rattle.btree_scan.specs.Directions.{joined}
-use Rattle.btree_scan.specs.Ways.{ahead, beside, credit_of, AreLevels, IsWay}
+use Rattle.btree_scan.specs.Ways.{ahead, credit_of, AreLevels, IsWay}
 use Rattle.btree_scan.proofs.DirectionLemmas.{rising_farther}
 use Rattle.btree_scan.proofs.CreditLemmas.{credit_most, credit_none, credit_spent}
 

@@ -1,5 +1,5 @@
 -- What the steps of a walk from leaf to leaf leave.
-use Rattle.std.specs.Prelude.{◌≡◌, ◌⊎◌, ℕ, ◌+◌, ◌≤◌, Bool, List, [], length}
+use Rattle.std.specs.Prelude.{◌≡◌, ◌⊎◌, ◌+◌, ◌≤◌, Bool, List, [], length}
 use Rattle.std.specs.Borrow.{Bor}
 use Rattle.arc_core.specs.declared.trees.Elem.{Elem}
 use Rattle.btree_nodes.specs.Subtree.{Subtree, IsChildAt}
