@@ -13,8 +13,10 @@ use Rattle.arc_core.specs.SessionText.{IsQuitUnit}
 use Rattle.frame_reader.specs.Cutting.{StandsInFor, Agree, GoesOnTo}
 use Rattle.arcus_tool.specs.declared.status.Status.{Status}
 use Rattle.arcus_tool.specs.declared.status.Status.TheVariants as status
-use Rattle.arcus_tool.specs.Handling.{IsTooLong, NoneFinal, OnlyLastFinal, EndsWith}
-use Rattle.arcus_tool.specs.Session.{Outside, IsSession, EndsCut, EndsAtLongLine, IsWholeInput, IsComplete}
+use Rattle.pipe_session.specs.Outside.{Outside}
+use Rattle.pipe_session.specs.Units.{IsTooLong, NoneFinal, OnlyLastFinal, EndsWith}
+use Rattle.pipe_session.specs.Ends.{EndsCut, EndsAtLongLine}
+use Rattle.arcus_tool.specs.Session.{IsSession, IsWholeInput, IsComplete}
 
 -- None of the units is of this kind.
 abbrev NoneIs : (Whole → Type 0) → List Whole → Type 0

@@ -1,12 +1,4 @@
-pub mod Sending
-pub mod Waiting
-pub mod Telling
-pub mod Histories
-pub mod Going
-pub mod Flushing
 pub mod Ending
-pub mod Beginning
 pub mod Completeness
 pub mod Opening
 pub mod Asking
-pub mod Fronts

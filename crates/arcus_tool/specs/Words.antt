@@ -12,7 +12,8 @@ use Rattle.arcus_tool.specs.declared.words.OptionName.TheVariants as option
 use Rattle.arcus_tool.specs.declared.words.Given.{Given}
 use Rattle.arcus_tool.specs.declared.words.Reading.{Reading}
 use Rattle.arcus_tool.specs.declared.words.Reading.TheVariants as reading
-use Rattle.arcus_tool.specs.Session.{Outside, IsSession, IsComplete}
+use Rattle.pipe_session.specs.Outside.{Outside}
+use Rattle.arcus_tool.specs.Session.{IsSession, IsComplete}
 
 -- a number below a bound, in decimal digits without a leading zero (`0` itself has none)
 abbrev pub plain_number : ℕ → List ℕ → Option ℕ

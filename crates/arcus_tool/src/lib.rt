@@ -3,14 +3,11 @@
 
 mod edge;
 mod joined;
-mod outbox;
 mod sessions;
 mod status;
-mod stops;
 #[cfg(test)]
 mod tests;
 mod top;
-mod units;
 mod words;
 
 pub use edge::{StdSink, StdSource, WallClock};

@@ -1,7 +1,7 @@
 //! The top call: all that the program does.
 ghost use Rattle.std.specs.Prelude.{◌≡◌, map, string_bytes};
 ghost use Rattle.arc_core.specs.Outside.{incoming, outgoing};
-ghost use Rattle.arcus_tool.specs.Session.{outside};
+ghost use Rattle.pipe_session.specs.Outside.{outside};
 ghost use Rattle.arcus_tool.specs.Words.{Runs, IfRefused};
 
 use crate::sessions::session;

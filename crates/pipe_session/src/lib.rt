@@ -1,0 +1,17 @@
+//! One session on a link, which works one turn at a time.
+//!
+//! `desk.rt` has what its requests go to, `turn.rt` what a turn answers, `owed.rt` the text that it owes to its link,
+//! `piece.rt` what it has pulled, `units.rt` how a unit is handled, `phase.rt` how far a session is, and `session.rt` the session and its turn.
+#![tactic(auto)]
+
+mod desk;
+mod owed;
+mod phase;
+mod piece;
+mod session;
+mod turn;
+mod units;
+
+pub use desk::{Desk, Direct};
+pub use session::{Session, fresh_sessions_have_done_nothing};
+pub use turn::Turn;
