@@ -117,5 +117,5 @@ goes_on phase.Over at deeds within = absurd within
 -- what is left to do gets less with each turn
 pub gets_less : (at at' : Standing) (deeds after : Deeds) → length deeds.taken ≡ at.taken → length after.taken ≡ at'.taken → at'.taken ≤ 2 ^ 40 → length at'.ahead ≤ 16384
     → WentOn at at' deeds after → (2 ^ 40 - at'.taken) * 32768 + length at'.ahead < (2 ^ 40 - at.taken) * 32768 + length at.ahead
-gets_less at at' deeds after before now few short (inl took) = omega (arith, took, before, now, few, short)
+gets_less at at' deeds after before now few short (inl took) = omega (arith, took.some, before, now, few, short)
 gets_less at at' deeds after before now few short (inr one) = omega (arith, one.read, ap length one.same, before, now)

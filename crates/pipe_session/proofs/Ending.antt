@@ -237,7 +237,7 @@ module _ {D : Type 0} (answers : D → Entry → D → Type 0) (began : Moment D
               parts = so.parts ∙ ap (λ o. deeds.gone ++ o) (sym owed);
               sent = so.sent;
             },
-            omega (arith, length-append deeds.taken piece, some),
+            record { some = omega (arith, length-append deeds.taken piece, some); nothing_owed = owed ∙ nothing_owed },
             steady,
           )
 
@@ -337,7 +337,7 @@ link_over answers began now agains agains' at' deeds result ending is stands end
 pub link_since : {D : Type 0} (answers : D → Entry → D → Type 0) (began now : Moment D) (agains middle agains' : ℕ) (at' : Standing) (deeds since : Deeds) (result : Turn)
     → middle ≡ agains → since.taken ≡ deeds.taken → LinkLeaves answers began now middle agains' at' since result → LinkLeaves answers began now agains agains' at' deeds result
 link_since answers began now agains middle agains' at' deeds since turn.More same taken leaves =
-    (leaves.0, leaves.1, subst (λ t. length t < length leaves.0.taken) taken leaves.2, leaves.3 ∙ same)
+    (leaves.0, leaves.1, record { some = subst (λ t. length t < length leaves.0.taken) taken leaves.2.some; nothing_owed = leaves.2.nothing_owed }, leaves.3 ∙ same)
 link_since answers began now agains middle agains' at' deeds since turn.Again same taken leaves =
     (leaves.0, leaves.1, subst (λ a. Rose a agains') same leaves.2)
 link_since answers began now agains middle agains' at' deeds since (turn.Over ending) same taken leaves = leaves
@@ -357,7 +357,7 @@ turn_since answers began now agains middle agains' at mid at' deeds since turn.M
     (leaves.0, leaves.1, on leaves.2, leaves.3 ∙ same)
   where
     on : WentOn mid at' since leaves.0 → WentOn at at' deeds leaves.0
-    on (inl took) = inl (subst (λ t. length t < length leaves.0.taken) taken took)
+    on (inl took) = inl (record { some = subst (λ t. length t < length leaves.0.taken) taken took.some; nothing_owed = took.nothing_owed })
     on (inr one) = inr (record {
       unit = one.unit;
       units = one.units ∙ ap (λ u. u ++ one.unit ∷ []) units;

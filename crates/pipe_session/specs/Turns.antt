@@ -95,9 +95,10 @@ pub record IsOver {D : Type 0} (answers : D → Entry → D → Type 0) (began n
   pub ends : Ends ended began.outside now.outside taken units tail text
   pub counts : CountsOnly ended began.outside now.outside
 
--- A turn took at least one byte from the link.
-abbrev pub Took : Deeds → Deeds → Type 0
-Took before after = length before.taken < length after.taken
+-- A turn took at least one byte from the link, and nothing is owed: all that was went out too.
+pub record Took (at' : Standing) (before after : Deeds) : Type 0 where
+  pub some : length before.taken < length after.taken
+  pub nothing_owed : at'.owed ≡ []
 
 -- It handled one unit, and took nothing.
 pub record HandledOne (at at' : Standing) (before after : Deeds) : Type 0 where
@@ -107,7 +108,7 @@ pub record HandledOne (at at' : Standing) (before after : Deeds) : Type 0 where
   pub read : length at'.ahead < length at.ahead
 
 abbrev pub WentOn : (at at' : Standing) (before after : Deeds) → Type 0
-WentOn at at' before after = Took before after ⊎ HandledOne at at' before after
+WentOn at at' before after = Took at' before after ⊎ HandledOne at at' before after
 
 -- ONE TURN. What it leaves of a session that has done this, by its answer: the session went on; or the link has to be
 -- asked again, which it has counted; or the session is over. Nothing that was done is lost or done again.
@@ -152,7 +153,7 @@ UnitLeaves answers began now at at' deeds false = SoFar answers began now at' de
 -- What an exchange with the link leaves, by its answer: bytes came; or it has to be asked again; or the session is over.
 abbrev pub LinkLeaves : {D : Type 0} → (D → Entry → D → Type 0) → (began now : Moment D) → (agains agains' : ℕ) → (at' : Standing) → Deeds → Turn → Type 0
 LinkLeaves answers began now agains agains' at' deeds turn.More =
-    (after : Deeds) × SoFar answers began now at' after × Took deeds after × (agains' ≡ agains)
+    (after : Deeds) × SoFar answers began now at' after × Took at' deeds after × (agains' ≡ agains)
 LinkLeaves answers began now agains agains' at' deeds turn.Again =
     (after : Deeds) × SoFar answers began now at' after × Rose agains agains'
 LinkLeaves answers began now agains agains' at' deeds (turn.Over ended) = IsOver answers began now ended × (at'.phase ≡ phase.Over)
