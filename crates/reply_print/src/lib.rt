@@ -9,6 +9,8 @@ mod gatherer;
 mod line_from_end;
 mod lines;
 mod outbox;
+#[cfg(test)]
+mod pipe_tests;
 mod pipes;
 mod sending;
 mod statuses;
