@@ -1,7 +1,7 @@
 //! Answers to runs of piped commands, worked by hand: from each offset, in the outbox, and over links that stop.
 use crate::tests::{Stop, TestLink, check_sent_upto};
-use crate::{Outbox, WAITING_BYTES, Wrote, write_pipe};
-use arc_core::{NoMemory, PipeFault, PipeStatus, Word};
+use crate::{Outbox, WAITING_BYTES, Wrote, status_fails, status_of, write_pipe};
+use arc_core::{NoMemory, PipeFault, PipeStatus, Reply, Seq, Word};
 use std::alloc::Global;
 use std::process::Abort;
 use std::test::Fail;
@@ -182,4 +182,22 @@ fn long_answers_have_no_room(rt: HostRuntime) -> Result<(), Fail> {
     )?;
     assert!(rt; link.sent == text);
     Ok(())
+}
+
+#[test]
+fn words_and_numbers_are_statuses(rt: HostRuntime) {
+    for (word, fails) in [
+        (Word::Stored, false),
+        (Word::Overflowed, false),
+        (Word::Unknown, true),
+        (Word::BadChunk, true),
+        (Word::OutOfMemory, true),
+    ] {
+        let status = status_of(&Reply::Word(word));
+        assert!(rt; status == Some(PipeStatus::Word(word)));
+        assert!(rt; status_fails(PipeStatus::Word(word)) == fails);
+    }
+    let number = PipeStatus::Number(7);
+    assert!(rt; status_of(&Reply::Number(7)) == Some(number) && !status_fails(number));
+    assert!(rt; status_of(&Reply::Values(Seq::new(rt.alloc()))) == None);
 }
