@@ -1,9 +1,9 @@
 -- The lines of statuses, how long the answer to a run of piped commands is, and that a number fails no run.
-use Rattle.std.proofs.Common.{◌≡◌, ◌+◌, ◌*◌, ◌^◌, ◌/◌, ◌%◌, ◌≤◌, ◌<◌, ℕ, zero, suc, List, [], ◌∷◌, ◌++◌, length, take, drop, get_or, Bool, true, false, cond, eqb, refl, arith, length-append}
+use Rattle.std.proofs.Common.{◌≡◌, ◌+◌, ◌*◌, ◌^◌, ◌/◌, ◌%◌, ◌≤◌, ◌<◌, ℕ, zero, suc, List, [], ◌∷◌, ◌++◌, length, take, drop, get_or, Bool, true, false, cond, eqb, arith, length-append}
 use Rattle.std.proofs.lemmas.List.{get_or_default}
 use Rattle.std.proofs.lemmas.Bool.{ne_eqb}
 use Rattle.std.proofs.lemmas.Bool.Decides.{nat_tests}
-use Rattle.std.specs.Prelude.{◌==◌, codes, decimal}
+use Rattle.std.specs.Prelude.{◌==◌, decimal}
 use Rattle.std.specs.Fmt.{digits, digits_onto, digit_glyph}
 use Rattle.std.specs.List.{flat_map}
 use Rattle.arc_core.specs.declared.pipes.PipeStatus.{PipeStatus}
@@ -12,7 +12,7 @@ use Rattle.arc_core.specs.declared.pipes.PipeFault.{PipeFault}
 use Rattle.arc_core.specs.declared.pipes.PipeFault.TheVariants as fault
 use Rattle.arc_core.specs.declared.replies.Word.{Word}
 use Rattle.arc_core.specs.declared.replies.Word.TheVariants as word
-use Rattle.arc_core.specs.ReplyText.{word_text, word_line, line_end}
+use Rattle.arc_core.specs.ReplyText.{word_line, line_end}
 use Rattle.reply_print.specs.PipeText.{status_text, fault_text, pipe_text, fails_run}
 use Rattle.reply_print.proofs.Pieces.{next_text, no_room_for_all}
 
