@@ -11,9 +11,12 @@ use Rattle.arc_core.specs.declared.rows.Row.{Row}
 use Rattle.arc_core.specs.declared.rows.RowName.{RowName}
 use Rattle.arc_core.specs.declared.rows.RowName.TheVariants as row_name
 use Rattle.arc_core.specs.declared.rows.Tail.{Tail}
+use Rattle.arc_core.specs.declared.pipes.PipeStatus.{PipeStatus}
+use Rattle.arc_core.specs.declared.pipes.PipeFault.{PipeFault}
 use Rattle.arc_core.specs.BkeyText.{bkey_text}
 use Rattle.arc_core.specs.ReplyText.{row_text, name_text, element_text, elements_text, tail_text, line_end}
-use Rattle.reply_print.specs.Parts.{row_tail, elements_line, field_text, name_rest, flag_part, element_front, element_pieces}
+use Rattle.reply_print.specs.PipeText.{status_text, fault_text, pipe_text}
+use Rattle.reply_print.specs.Parts.{row_tail, elements_line, run_line, field_text, name_rest, flag_part, element_front, element_pieces}
 
 -- a row's text, put together from the left, piece by piece
 row_parts : (a k s f n u e v rest : List ℕ)
@@ -81,6 +84,14 @@ elements_parts flags rows tail line end rest l e =
     answer_parts (elements_line flags (length rows)) (flat_map element_text rows) (tail_text tail) line_end rest
     ∙ ap (λ x. x ++ (flat_map element_text rows ++ ((tail_text tail ++ line_end) ++ rest))) (sym l)
     ∙ ap (λ x. line ++ (flat_map element_text rows ++ (x ++ rest))) (sym e)
+
+-- the parts of the answer to a run of piped commands, and what comes behind it
+pub run_parts : (statuses : List PipeStatus) (fault : PipeFault) (line end rest : List ℕ) → line ≡ run_line (length statuses) → end ≡ fault_text fault ++ line_end
+    → pipe_text statuses fault ++ rest ≡ line ++ (flat_map status_text statuses ++ (end ++ rest))
+run_parts statuses fault line end rest l e =
+    answer_parts (run_line (length statuses)) (flat_map status_text statuses) (fault_text fault) line_end rest
+    ∙ ap (λ x. x ++ (flat_map status_text statuses ++ ((fault_text fault ++ line_end) ++ rest))) (sym l)
+    ∙ ap (λ x. line ++ (flat_map status_text statuses ++ (x ++ rest))) (sym e)
 
 module _ {X : Type 0} (f : X → List ℕ) where
   -- the next of the texts

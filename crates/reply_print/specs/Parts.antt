@@ -1,4 +1,4 @@
--- The parts of the texts of found items and of elements.
+-- The parts of the texts of found items, of elements and of runs of piped commands.
 use Rattle.std.specs.Prelude.{ℕ, List, [], ◌++◌, length, codes, decimal, Option}
 use Rattle.std.specs.Option.{option_map_or}
 use Rattle.arc_core.specs.declared.replies.ValueRow.{ValueRow}
@@ -17,6 +17,10 @@ row_tail row =
 -- the line before so many elements
 abbrev pub elements_line : ℕ → ℕ → List ℕ
 elements_line flags count = codes "VALUE " ++ decimal flags ++ codes " " ++ decimal count ++ line_end
+
+-- the line before so many statuses
+abbrev pub run_line : ℕ → List ℕ
+run_line count = codes "RESPONSE " ++ decimal count ++ line_end
 
 -- an element's field, with which its line begins; nothing where it has none
 abbrev pub field_text : RowName → List ℕ

@@ -2,10 +2,11 @@
 ghost use Rattle.std.specs.Prelude.{◌≡◌, ◌+◌, ◌≤◌, [], ◌++◌, length, codes, decimal};
 ghost use Rattle.std.specs.Option.{option_map_or};
 ghost use Rattle.arc_core.specs.ReplyText.{word_line, tail_text, line_end};
-ghost use Rattle.reply_print.specs.Parts.{row_tail, elements_line};
+ghost use Rattle.reply_print.specs.Parts.{row_tail, elements_line, run_line};
+ghost use Rattle.reply_print.specs.PipeText.{fault_text};
 
 use crate::line_from_end::LineFromEnd;
-use arc_core::{Tail, ValueRow, Word};
+use arc_core::{PipeFault, Tail, ValueRow, Word};
 
 /// The most bytes of a line of numbers, and of what stands behind a key.
 const LINE_BYTES: usize = 72;
@@ -16,10 +17,13 @@ pub(crate) type NumberLine = LineFromEnd<LINE_BYTES>;
 /// What begins the line of a found item.
 pub(crate) const ROW_START: &[u8] = b"VALUE ";
 
+/// What begins the answer to a run of piped commands.
+const RUN_START: &[u8] = b"RESPONSE ";
+
 /// What ends a line.
 pub(crate) const LINE_END: &[u8] = b"\r\n";
 
-/// The line behind the found items.
+/// The line behind the found items, and behind the statuses of a run that was executed to its end.
 pub(crate) const END: &[u8] = b"END\r\n";
 
 /// The line of a word.
@@ -73,6 +77,18 @@ pub(crate) fn tail_line(tail: Tail) -> &'static [u8]
     }
 }
 
+/// The line behind statuses, which says how their run ended.
+pub(crate) fn fault_line(fault: PipeFault) -> &'static [u8]
+    ensures line { result.now ≡ fault_text fault ++ line_end }
+    ensures short { length result.now ≤ 128 }
+{
+    match fault {
+        PipeFault::Nothing => END,
+        PipeFault::BadError => b"PIPE_ERROR bad error\r\n",
+        PipeFault::Overflow => b"PIPE_ERROR command overflow\r\n",
+    }
+}
+
 /// The line of a number.
 pub(crate) fn number_line(number: u64) -> NumberLine
     ensures { result ≡ decimal number ++ line_end }
@@ -92,6 +108,17 @@ pub(crate) fn elements_line_of(flags: u32, count: usize) -> NumberLine
     put_blank_number(&mut line, count as u64);
     line.put_number(u64::from(flags));
     line.put(ROW_START);
+    line
+}
+
+/// The line before statuses: how many come.
+pub(crate) fn run_line_of(count: usize) -> NumberLine
+    ensures { result ≡ run_line count }
+{
+    let mut line = LineFromEnd::new();
+    line.put(LINE_END);
+    line.put_number(count as u64);
+    line.put(RUN_START);
     line
 }
 

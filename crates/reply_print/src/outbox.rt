@@ -3,13 +3,16 @@ ghost use Rattle.std.specs.Prelude.{◌≡◌, ◌+◌, ◌<◌, ◌≤◌, [], 
 ghost use Rattle.std.specs.List.{flat_map};
 ghost use Rattle.arc_core.specs.ReplyText.{reply_text, row_text, elements_text, line_end};
 ghost use Rattle.reply_print.specs.Parts.{element_pieces};
+ghost use Rattle.reply_print.specs.PipeText.{pipe_text};
 ghost use Rattle.reply_print.specs.Waiting.{IsPut, IsPutInPart};
 
 use crate::elements::add_elements;
 use crate::lines::{
-    END, LINE_END, ROW_START, elements_line_of, line_of, number_line, tail_line, tail_of,
+    END, LINE_END, ROW_START, elements_line_of, fault_line, line_of, number_line, run_line_of,
+    tail_line, tail_of,
 };
-use arc_core::{NoMemory, Reply, Row, Tail, ValueRow};
+use crate::pipes::add_statuses;
+use arc_core::{NoMemory, PipeFault, PipeStatus, Reply, Row, Tail, ValueRow};
 use std::alloc::Global;
 use std::marker::Model;
 
@@ -78,6 +81,22 @@ impl Outbox {
             Reply::Values(rows) => self.put_rows(rows.as_slice()),
             Reply::Rows { flags, rows, tail } => self.put_elements(*flags, rows.as_slice(), *tail),
         }
+    }
+
+    /// Puts the whole answer to a run of piped commands behind all that waits, as `put` does with a reply, and tells
+    /// whether it has room. Else nothing has changed. Takes no memory.
+    pub fn put_pipe(&mut self, statuses: &[PipeStatus], fault: PipeFault) -> bool
+        ensures { IsPut self.old self.new (pipe_text statuses.now fault) result }
+    {
+        let held = self.bytes.len();
+        if self.add(run_line_of(statuses.len()).bytes())
+            && add_statuses(statuses, self)
+            && self.add(fault_line(fault))
+        {
+            return true;
+        }
+        self.bytes.truncate(held);
+        false
     }
 
     /// So many bytes at the front were sent. (All, but where a link takes a part.)

@@ -16,6 +16,7 @@ pub(crate) enum Stop {
     Fails(u64),
     Refuses(u64),
     Waits(u64),
+    WaitsEachSecond,
 }
 
 // A link in memory from which nothing comes, and of whose pushes each takes at most so many bytes.
@@ -66,6 +67,10 @@ impl Link for TestLink {
                 self.agains = self.agains.saturating_add(1);
                 Push::Again
             }
+            Stop::WaitsEachSecond if push % 2 == 1 => {
+                self.agains = self.agains.saturating_add(1);
+                Push::Again
+            }
             _ => self.take(piece),
         }
     }
@@ -73,7 +78,7 @@ impl Link for TestLink {
 
 impl TestLink {
     // A link to which nothing was sent.
-    fn new(alloc: Global, most: usize, stop: Stop) -> TestLink
+    pub(crate) fn new(alloc: Global, most: usize, stop: Stop) -> TestLink
         requires { 0 < most }
     {
         TestLink {
@@ -304,11 +309,24 @@ pub(crate) fn check_stop(
     stop: Stop,
 ) {
     let (wrote, link) = sent(rt, alloc, reply, from, most, stop);
+    check_sent_upto(rt, wrote, &link, text, from, most, stop);
+}
+
+// Checks what is answered where the link has stopped, and what was sent before.
+pub(crate) fn check_sent_upto(
+    rt: &impl Abort,
+    wrote: Wrote,
+    link: &TestLink,
+    text: &[u8],
+    from: usize,
+    most: usize,
+    stop: Stop,
+) {
     let upto = from.saturating_add(link.sent.len());
     assert!(rt; from <= upto && upto < text.len());
     assert!(rt; link.sent.as_slice() == &text[from..upto]);
     let (place, answer, counts) = match stop {
-        Stop::Never => panic!(rt; "no stop"),
+        Stop::Never | Stop::WaitsEachSecond => panic!(rt; "no stop"),
         Stop::Fails(place) => (place, Wrote::Failed(upto as u64), (1, 0, 0)),
         Stop::Refuses(place) => (place, Wrote::NoMemory(upto as u64), (0, 1, 0)),
         Stop::Waits(place) => (place, Wrote::Again(upto as u64), (0, 0, 1)),
