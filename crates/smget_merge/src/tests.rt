@@ -1,0 +1,1 @@
+//! Merged reads of small trees, row by row.
