@@ -1,6 +1,7 @@
 pub mod FacingLemmas
 pub mod OrderLemmas
 pub mod SeenLemmas
+pub mod SelectedLemmas
 pub mod SortLemmas
 pub mod TournamentLemmas
 pub mod WalkLemmas

@@ -1,5 +1,5 @@
 -- What a test has seen of its trees.
-use Rattle.std.proofs.Common.{◌≡◌, ℕ, zero, suc, ◌+◌, ◌-◌, ◌^◌, ◌<◌, ◌≤◌, false, List, [], ◌∷◌, length, None, refl, ap, sym, ◌∙◌, inl, inr, arith}
+use Rattle.std.proofs.Common.{◌≡◌, ℕ, zero, suc, ◌+◌, ◌-◌, ◌^◌, ◌≤◌, false, List, [], ◌∷◌, length, None, refl, ap, sym, ◌∙◌, inl, inr, arith}
 use Rattle.std.specs.List.{filter}
 use Rattle.std.proofs.lemmas.Bool.{cases_lt}
 use Rattle.std.proofs.lemmas.Grind.{pow_more}
@@ -16,7 +16,7 @@ pub hundred_low : (h : ℕ) → (2 ≤ h → 16 ^ (h - 1) ≤ 100) → h ≤ 2
 hundred_low h may = elim (cases_lt 2 h) [
   | inl high ↦ let more = power_high (h - 3) in let up : h - 3 + 2 ≡ h - 1 = omega arith in let same = ap (λ k. 16 ^ k) up in absurd (omega (arith, more, same, may (omega arith)))
   | inr low ↦ low
-  ]
+]
 
 all_selected : (rows : List TreeRow) → filter (λ row. is_selected None row.element) rows ≡ rows
 all_selected [] = refl

@@ -59,7 +59,7 @@ module _ (down : Bool) where
   pub sorted_again : (xs ys : List TreeRow) → sorted down (sorted down xs ++ ys) ≡ sorted down (xs ++ ys)
   sorted_again xs ys = sorted_append (sorted down xs) ys ∙ (with_rows_sorted xs (sorted down ys) ∙ sym (sorted_append xs ys))
 
-  with_row_all : (P : TreeRow → Type 0) (row : TreeRow) (rows : List TreeRow) → P row → All P rows → All P (with_row down row rows)
+  pub with_row_all : (P : TreeRow → Type 0) (row : TreeRow) (rows : List TreeRow) → P row → All P rows → All P (with_row down row rows)
   with_row_all P row [] here all = All-cons P row [] here (All-nil P)
   with_row_all P row (other ∷ rows) here all = elim (cases_Bool (is_before down other.element row.element)) [
     | inl before ↦ rw (behind row other rows before) (All-cons P other (with_row down row rows) (All-head P other rows all) (with_row_all P row rows here (All-tail P other rows all)))

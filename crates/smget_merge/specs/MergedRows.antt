@@ -1,13 +1,14 @@
 -- The rows of several trees as one read in the range's direction. (A read over many trees is the ARCUS protocol's `smget`; that
 -- rows of one bkey come in the order of the trees, and that the first of them is kept, is this server's own.)
-use Rattle.std.specs.Prelude.{ℕ, Bool, true, false, List, [], ◌∷◌, map, filter, if◌then◌else◌, Option, None, Some}
+use Rattle.std.specs.Prelude.{ℕ, Bool, true, false, List, [], ◌∷◌, map, filter, flat_map, if◌then◌else◌, Option, None, Some}
 use Rattle.std.specs.Ordering.{is_lt, is_eq}
 use Rattle.std.specs.declared.cmp.Ordering.{Ordering}
 use Rattle.arc_core.specs.declared.bkeys.Bkey.{Bkey}
 use Rattle.arc_core.specs.declared.filters.Filter.{Filter}
 use Rattle.arc_core.specs.declared.trees.Elem.{Elem}
-use Rattle.arc_core.specs.BkeyOrder.{bkey_cmp}
-use Rattle.arc_core.specs.TreeReading.{is_selected}
+use Rattle.arc_core.specs.declared.bkeys.BkeyRange.{BkeyRange}
+use Rattle.arc_core.specs.BkeyOrder.{bkey_cmp, is_down, span}
+use Rattle.arc_core.specs.TreeReading.{is_selected, selected}
 
 -- an element with the number of its tree
 pub record TreeRow : Type 0 where
@@ -51,3 +52,17 @@ first_of_each last (row ∷ rows) = if has_last last row.element then first_of_e
 abbrev pub wanted : Option Filter → Bool → Option Bkey → List TreeRow → List TreeRow
 wanted asked true last rows = first_of_each last (filter (λ row. is_selected asked row.element) rows)
 wanted asked false last rows = filter (λ row. is_selected asked row.element) rows
+
+-- the rows of trees, which are given by their numbers and elements, that a read selects: one tree after another
+abbrev pub selected_rows : BkeyRange → Option Filter → List (ℕ × List Elem) → List TreeRow
+selected_rows range asked trees = flat_map (λ tree. rows_of tree.0 (selected range asked tree.1)) trees
+
+-- a merged read of trees: what it selects, sorted by bkey in the range's direction; of each bkey the first row alone where they
+-- are to be unique
+abbrev pub merged : BkeyRange → Option Filter → Bool → List (ℕ × List Elem) → List TreeRow
+merged range asked true trees = first_of_each None (sorted (is_down range) (selected_rows range asked trees))
+merged range asked false trees = sorted (is_down range) (selected_rows range asked trees)
+
+-- the rows of trees that a range has, one tree after another
+abbrev pub rows_in : BkeyRange → List (ℕ × List Elem) → List TreeRow
+rows_in range trees = flat_map (λ tree. rows_of tree.0 (span (λ element. element.bkey) range tree.1)) trees

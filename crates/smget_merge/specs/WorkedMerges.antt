@@ -1,55 +1,66 @@
 -- Worked examples of merged reads that compute.
-use Rattle.std.specs.Prelude.{◌≡◌, ℕ, true, false, List, [], ◌∷◌, ◌++◌, codes, None, Some, refl}
+use Rattle.std.specs.Prelude.{◌≡◌, ℕ, true, false, List, [], ◌∷◌, codes, None, Some, refl}
 use Rattle.arc_core.specs.declared.bkeys.Bkey.TheVariants.{Number}
+use Rattle.arc_core.specs.declared.bkeys.BkeyRange.{BkeyRange}
 use Rattle.arc_core.specs.declared.filters.CompOp.TheVariants as comp
 use Rattle.arc_core.specs.declared.filters.Filter.{Filter}
 use Rattle.arc_core.specs.declared.trees.Elem.{Elem}
-use Rattle.smget_merge.specs.MergedRows.{TreeRow, rows_of, sorted, wanted}
+use Rattle.smget_merge.specs.MergedRows.{TreeRow, merged, wanted}
 
 -- an element with a number as bkey, no flag and a text as value
 abbrev elem : ℕ → List ℕ → Elem
 elem number value = record { bkey = Number number; eflag = None; value = value }
 
-abbrev row : ℕ → ℕ → List ℕ → TreeRow
-row number bkey value = record { number = number; element = elem bkey value }
+-- one with a flag of one byte
+abbrev flagged : ℕ → ℕ → List ℕ → Elem
+flagged number flag value = record { bkey = Number number; eflag = Some (flag ∷ []); value = value }
 
--- tree 0 holds 1 `a` and 3 `b`, tree 1 holds 3 `c` and 5 `d`, tree 2 nothing: their walks downwards and upwards
-abbrev downwards : List TreeRow
-downwards = rows_of 0 (elem 3 (codes "b") ∷ elem 1 (codes "a") ∷ []) ++ (rows_of 1 (elem 5 (codes "d") ∷ elem 3 (codes "c") ∷ []) ++ rows_of 2 [])
+abbrev row : ℕ → Elem → TreeRow
+row number element = record { number = number; element = element }
 
-abbrev upwards : List TreeRow
-upwards = rows_of 0 (elem 1 (codes "a") ∷ elem 3 (codes "b") ∷ []) ++ (rows_of 1 (elem 3 (codes "c") ∷ elem 5 (codes "d") ∷ []) ++ rows_of 2 [])
+abbrev from_to : ℕ → ℕ → BkeyRange
+from_to first last = record { first = Number first; last = Number last }
 
-all_downwards : wanted None false None (sorted true downwards) ≡ row 1 5 (codes "d") ∷ row 0 3 (codes "b") ∷ row 1 3 (codes "c") ∷ row 0 1 (codes "a") ∷ []
+-- two trees that both hold 3, and one without elements
+abbrev a_and_b : List (ℕ × List Elem)
+a_and_b = (0, elem 1 (codes "a") ∷ elem 3 (codes "b") ∷ []) ∷ (1, elem 3 (codes "c") ∷ elem 5 (codes "d") ∷ []) ∷ (2, []) ∷ []
+
+all_downwards : merged (from_to 5 1) None false a_and_b ≡ row 1 (elem 5 (codes "d")) ∷ row 0 (elem 3 (codes "b")) ∷ row 1 (elem 3 (codes "c")) ∷ row 0 (elem 1 (codes "a")) ∷ []
 all_downwards = refl
 
-unique_downwards : wanted None true None (sorted true downwards) ≡ row 1 5 (codes "d") ∷ row 0 3 (codes "b") ∷ row 0 1 (codes "a") ∷ []
+unique_downwards : merged (from_to 5 1) None true a_and_b ≡ row 1 (elem 5 (codes "d")) ∷ row 0 (elem 3 (codes "b")) ∷ row 0 (elem 1 (codes "a")) ∷ []
 unique_downwards = refl
 
-all_upwards : wanted None false None (sorted false upwards) ≡ row 0 1 (codes "a") ∷ row 0 3 (codes "b") ∷ row 1 3 (codes "c") ∷ row 1 5 (codes "d") ∷ []
+all_upwards : merged (from_to 1 5) None false a_and_b ≡ row 0 (elem 1 (codes "a")) ∷ row 0 (elem 3 (codes "b")) ∷ row 1 (elem 3 (codes "c")) ∷ row 1 (elem 5 (codes "d")) ∷ []
 all_upwards = refl
 
-unique_upwards : wanted None true None (sorted false upwards) ≡ row 0 1 (codes "a") ∷ row 0 3 (codes "b") ∷ row 1 5 (codes "d") ∷ []
+unique_upwards : merged (from_to 1 5) None true a_and_b ≡ row 0 (elem 1 (codes "a")) ∷ row 0 (elem 3 (codes "b")) ∷ row 1 (elem 5 (codes "d")) ∷ []
 unique_upwards = refl
 
--- a tree that is read under two numbers
-abbrev twice : List TreeRow
-twice = rows_of 0 (elem 1 (codes "a") ∷ elem 3 (codes "b") ∷ []) ++ rows_of 1 (elem 1 (codes "a") ∷ elem 3 (codes "b") ∷ [])
+-- a range that meets the second tree alone, and one that meets none
+second_alone : merged (from_to 9 4) None false a_and_b ≡ row 1 (elem 5 (codes "d")) ∷ []
+second_alone = refl
 
-twice_all : wanted None false None (sorted false twice) ≡ row 0 1 (codes "a") ∷ row 1 1 (codes "a") ∷ row 0 3 (codes "b") ∷ row 1 3 (codes "b") ∷ []
+nothing_met : merged (from_to 6 9) None true a_and_b ≡ []
+nothing_met = refl
+
+-- one tree that is read under two numbers
+abbrev twice : List (ℕ × List Elem)
+twice = (0, elem 1 (codes "a") ∷ elem 3 (codes "b") ∷ []) ∷ (1, elem 1 (codes "a") ∷ elem 3 (codes "b") ∷ []) ∷ []
+
+twice_all : merged (from_to 3 1) None false twice ≡ row 0 (elem 3 (codes "b")) ∷ row 1 (elem 3 (codes "b")) ∷ row 0 (elem 1 (codes "a")) ∷ row 1 (elem 1 (codes "a")) ∷ []
 twice_all = refl
 
-twice_unique : wanted None true None (sorted false twice) ≡ row 0 1 (codes "a") ∷ row 0 3 (codes "b") ∷ []
+twice_unique : merged (from_to 1 3) None true twice ≡ row 0 (elem 1 (codes "a")) ∷ row 0 (elem 3 (codes "b")) ∷ []
 twice_unique = refl
 
--- behind a row of bkey 3, which another tree's row had
-behind_three : wanted None true (Some (Number 3)) (row 1 3 (codes "c") ∷ row 1 5 (codes "d") ∷ []) ≡ row 1 5 (codes "d") ∷ []
-behind_three = refl
-
--- without a flag no element passes a filter that asks for an equal one, so that the later tree's row is the first of its bkey
+-- the flag 1 is asked for: the first tree's element of bkey 3 does not pass, so that the second tree's row is the first of it
 abbrev is_one : Filter
 is_one = record { fwhere = 0; bits = None; comp = comp.Eq; values = (1 ∷ []) ∷ [] }
 
-first_that_passes : wanted (Some is_one) true None (row 0 3 (codes "b") ∷ record { number = 1; element = record { bkey = Number 3; eflag = Some (1 ∷ []); value = codes "c" } } ∷ [])
-    ≡ record { number = 1; element = record { bkey = Number 3; eflag = Some (1 ∷ []); value = codes "c" } } ∷ []
+first_that_passes : merged (from_to 1 5) (Some is_one) true ((0, flagged 3 2 (codes "b") ∷ []) ∷ (1, flagged 3 1 (codes "c") ∷ []) ∷ (2, flagged 3 1 (codes "d") ∷ []) ∷ []) ≡ row 1 (flagged 3 1 (codes "c")) ∷ []
 first_that_passes = refl
+
+-- what is left behind a row of bkey 3 that was handed out
+behind_three : wanted None true (Some (Number 3)) (row 1 (elem 3 (codes "c")) ∷ row 1 (elem 5 (codes "d")) ∷ []) ≡ row 1 (elem 5 (codes "d")) ∷ []
+behind_three = refl

@@ -26,7 +26,7 @@ invariant_of-self g c =
       few = c.self.invariant.few;
       within = omega (arith, room, many, c.requires.room);
       room = omega (arith, pushed.capacity, c.self.invariant.room);
-      facing = subst (All F) (sym pushed.items) (All-push F inside.walks.items walk c.self.invariant.facing faces);
+      facing = subst (All F) (sym {A = List WalkLeft} pushed.items) (All-push F inside.walks.items walk c.self.invariant.facing faces);
       ranked = λ is. cc;
     }
 
