@@ -1,5 +1,6 @@
 pub mod FacingLemmas
 pub mod OrderLemmas
+pub mod OrderedLemmas
 pub mod SeenLemmas
 pub mod SelectedLemmas
 pub mod SortLemmas

@@ -1,40 +1,16 @@
 -- It is the same to select rows first and to sort them then.
-use Rattle.std.proofs.Common.{◌≡◌, ℕ, Bool, true, false, List, [], ◌∷◌, ◌++◌, Option, None, refl, ap, sym, ◌∙◌, inl, inr, arith}
-use Rattle.std.specs.List.{All, filter}
+use Rattle.std.proofs.Common.{◌≡◌, ℕ, Bool, true, false, List, [], ◌∷◌, ◌++◌, Option, None, refl, ap, sym, ◌∙◌, inl, inr}
+use Rattle.std.specs.List.{filter}
 use Rattle.std.proofs.lemmas.Bool.{cases_Bool}
-use Rattle.std.proofs.lemmas.List.Elements.{All-cons, All-weaker, All-filter, filter-append}
+use Rattle.std.proofs.lemmas.List.Elements.{All-filter, filter-append}
 use Rattle.arc_core.specs.declared.bkeys.BkeyRange.{BkeyRange}
 use Rattle.arc_core.specs.declared.filters.Filter.{Filter}
 use Rattle.arc_core.specs.declared.trees.Elem.{Elem}
 use Rattle.arc_core.specs.BkeyOrder.{is_down, span}
 use Rattle.arc_core.specs.TreeReading.{is_selected, selected}
 use Rattle.smget_merge.specs.MergedRows.{TreeRow, first_of_each, is_before, merged, rows_in, rows_of, selected_rows, sorted, wanted, with_row}
-use Rattle.smget_merge.proofs.OrderLemmas.{before_weak, not_back}
-use Rattle.smget_merge.proofs.SortLemmas.{behind, in_front, foremost, with_row_all}
-
--- No row comes before one in front of it.
-abbrev pub IsOrdered : Bool → List TreeRow → Type 0
-IsOrdered down [] = Unit {0}
-IsOrdered down (row ∷ rows) = All (λ (other : TreeRow). is_before down other.element row.element ≡ false) rows × IsOrdered down rows
-
--- what is not before a row is not before one that this is not before
-all_not_before : (down : Bool) (row other : TreeRow) (rows : List TreeRow) → is_before down other.element row.element ≡ false → All (λ (z : TreeRow). is_before down z.element other.element ≡ false) rows
-    → All (λ (z : TreeRow). is_before down z.element row.element ≡ false) (other ∷ rows)
-all_not_before down row other rows none all =
-    let P : TreeRow → Type 0 = λ z. is_before down z.element row.element ≡ false in
-    All-cons P other rows none (All-weaker (λ (z : TreeRow). is_before down z.element other.element ≡ false) P (λ z not. (before_weak down).chain z.element other.element row.element not none) rows all)
-
-with_row_ordered : (down : Bool) (row : TreeRow) (rows : List TreeRow) → IsOrdered down rows → IsOrdered down (with_row down row rows)
-with_row_ordered down row [] ordered = (λ i d within. absurd (omega arith), tt)
-with_row_ordered down row (other ∷ rows) ordered = elim (cases_Bool (is_before down other.element row.element)) [
-  | inl before ↦ rw (behind down row other rows before)
-      (with_row_all down (λ (z : TreeRow). is_before down z.element other.element ≡ false) row rows (not_back down other.element row.element before) ordered.0, with_row_ordered down row rows ordered.1)
-  | inr none ↦ rw (in_front down row other rows none) (all_not_before down row other rows none ordered.0, ordered)
-]
-
-pub sorted_ordered : (down : Bool) (rows : List TreeRow) → IsOrdered down (sorted down rows)
-sorted_ordered down [] = tt
-sorted_ordered down (row ∷ rows) = with_row_ordered down row (sorted down rows) (sorted_ordered down rows)
+use Rattle.smget_merge.proofs.OrderedLemmas.{IsOrdered, all_not_before, sorted_ordered, unique_firsts}
+use Rattle.smget_merge.proofs.SortLemmas.{behind, in_front, foremost}
 
 module _ (p : TreeRow → Bool) where
   kept : (row : TreeRow) (rows : List TreeRow) → p row ≡ true → filter p (row ∷ rows) ≡ row ∷ filter p rows
@@ -95,5 +71,5 @@ module _ (asked : Option Filter) where
   selects range trees = filter_sorted (λ (row : TreeRow). is_selected asked row.element) (is_down range) (rows_in range trees) ∙ ap (sorted (is_down range)) (filter_rows range trees)
 
   pub reads : (range : BkeyRange) (unique : Bool) (trees : List (ℕ × List Elem)) → wanted asked unique None (sorted (is_down range) (rows_in range trees)) ≡ merged range asked unique trees
-  reads range true trees = ap (first_of_each None) (selects range trees)
+  reads range true trees = ap (first_of_each None) (selects range trees) ∙ unique_firsts (is_down range) (sorted (is_down range) (selected_rows range asked trees)) (sorted_ordered (is_down range) (selected_rows range asked trees))
   reads range false trees = selects range trees

@@ -1,6 +1,6 @@
 -- The rows of several trees as one read in the range's direction. (A read over many trees is the ARCUS protocol's `smget`; that
 -- rows of one bkey come in the order of the trees, and that the first of them is kept, is this server's own.)
-use Rattle.std.specs.Prelude.{ℕ, Bool, true, false, List, [], ◌∷◌, map, filter, flat_map, if◌then◌else◌, Option, None, Some}
+use Rattle.std.specs.Prelude.{ℕ, Bool, true, false, not, List, [], ◌∷◌, map, filter, flat_map, if◌then◌else◌, Option, None, Some}
 use Rattle.std.specs.Ordering.{is_lt, is_eq}
 use Rattle.std.specs.declared.cmp.Ordering.{Ordering}
 use Rattle.arc_core.specs.declared.bkeys.Bkey.{Bkey}
@@ -43,7 +43,7 @@ abbrev pub has_last : Option Bkey → Elem → Bool
 has_last None element = false
 has_last (Some last) element = is_eq (bkey_cmp element.bkey last)
 
--- the first row of each bkey, where rows of one bkey stand together and those of `last` were seen before
+-- of rows with one bkey that follow one another, the first; none of those in front that have the bkey `last`, which was seen before
 abbrev pub first_of_each : Option Bkey → List TreeRow → List TreeRow
 first_of_each last [] = []
 first_of_each last (row ∷ rows) = if has_last last row.element then first_of_each last rows else row ∷ first_of_each (Some row.element.bkey) rows
@@ -57,10 +57,15 @@ wanted asked false last rows = filter (λ row. is_selected asked row.element) ro
 abbrev pub selected_rows : BkeyRange → Option Filter → List (ℕ × List Elem) → List TreeRow
 selected_rows range asked trees = flat_map (λ tree. rows_of tree.0 (selected range asked tree.1)) trees
 
--- a merged read of trees: what it selects, sorted by bkey in the range's direction; of each bkey the first row alone where they
--- are to be unique
+-- the first row of each bkey
+abbrev pub firsts : List TreeRow → List TreeRow
+firsts [] = []
+firsts (row ∷ rows) = row ∷ filter (λ other. not (has_last (Some row.element.bkey) other.element)) (firsts rows)
+
+-- a merged read of trees: what it selects, sorted by bkey in the range's direction; the first row of each bkey alone where they are
+-- to be unique
 abbrev pub merged : BkeyRange → Option Filter → Bool → List (ℕ × List Elem) → List TreeRow
-merged range asked true trees = first_of_each None (sorted (is_down range) (selected_rows range asked trees))
+merged range asked true trees = firsts (sorted (is_down range) (selected_rows range asked trees))
 merged range asked false trees = sorted (is_down range) (selected_rows range asked trees)
 
 -- the rows of trees that a range has, one tree after another
