@@ -130,9 +130,9 @@ fn serve<'a, 'b, S: Source, K: Sink, C: Clock, E: Executor, J: Joins>(
     loop {
         match session.turn(desk, link, clock) {
             Turn::More => session.keeps_its_limits(),
-            Turn::Over(end) => {
+            Turn::Over(ended) => {
                 desk.executor.keeps_the_rules();
-                return status_of(end);
+                return status_of(ended);
             }
             // A source and a sink never have to be asked again.
             Turn::Again => unreachable!(),
@@ -141,11 +141,11 @@ fn serve<'a, 'b, S: Source, K: Sink, C: Clock, E: Executor, J: Joins>(
 }
 
 // The status of a session that ended so.
-fn status_of(end: End) -> Status
-    requires { end ≢ end.Crowded }
-    ensures { IsStatusOf end result }
+fn status_of(ended: End) -> Status
+    requires { ended ≢ end.Crowded }
+    ensures { IsStatusOf ended result }
 {
-    match end {
+    match ended {
         End::Ended | End::Quit => Status::Done,
         End::Cut(rest) => Status::CutInput(rest),
         End::LineTooLong => Status::LineTooLong,
