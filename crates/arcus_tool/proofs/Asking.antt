@@ -1,17 +1,16 @@
 -- The program's words are read as a session exactly where they ask for one.
-use Rattle.std.proofs.Common.{◌≡◌, ◌⊎◌, ℕ, ◌+◌, ◌==◌, Bool, true, false, List, [], ◌∷◌, ◌++◌, take, drop, get_or, length, Option, Some, None, is_some, Result, Ok, Err, bytes_eq, refl, sym, ap, ◌∙◌, inl, inr, subst, arith}
+use Rattle.std.proofs.Common.{◌≡◌, ℕ, ◌+◌, Bool, true, false, List, [], ◌∷◌, ◌++◌, take, drop, Option, Some, None, is_some, Ok, Err, bytes_eq, refl, sym, ap, ◌∙◌, inl, inr, subst}
 use Rattle.std.specs.Prelude.{codes, if◌then◌else◌}
 use Rattle.std.specs.Option.{option_map, option_map_or, option_and_then}
 use Rattle.std.proofs.lemmas.List.{take-append-drop}
 use Rattle.std.proofs.lemmas.Slice.Eq.{bytes_eq-Decides}
-use Rattle.arcus_tool.specs.declared.words.Job.{Job}
 use Rattle.arcus_tool.specs.declared.words.Job.TheVariants as job
 use Rattle.arcus_tool.specs.declared.words.OptionName.{OptionName}
 use Rattle.arcus_tool.specs.declared.words.OptionName.TheVariants as option
 use Rattle.arcus_tool.specs.declared.words.Given.{Given}
 use Rattle.arcus_tool.specs.declared.words.Reading.{Reading}
 use Rattle.arcus_tool.specs.declared.words.Reading.TheVariants as reading
-use Rattle.arcus_tool.specs.Words.{job_of, session_job, job_at_end, word_read, option_read, whole_option_read, option_begun, begun_read, option_named, option_text, option_value, given_of, with_value}
+use Rattle.arcus_tool.specs.Words.{job_of, session_job, word_read, option_read, whole_option_read, option_begun, begun_read, option_named, option_text, option_value, given_of, with_value}
 use Rattle.arcus_tool.specs.Asking.{WritesOption, WritesOptions, AsksForSession}
 
 abbrev limit_of : Given → ℕ

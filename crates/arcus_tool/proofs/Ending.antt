@@ -1,5 +1,5 @@
 -- A session of turns is a session of the program.
-use Rattle.std.proofs.Common.{◌≡◌, ◌<◌, ◌≤◌, ◌+◌, ◌*◌, ◌-◌, ◌^◌, ℕ, List, [], ◌∷◌, ◌++◌, length, Option, Some, None, true, false, refl, sym, ap, ◌∙◌, inl, inr, subst, arith}
+use Rattle.std.proofs.Common.{◌≡◌, ◌<◌, ◌≤◌, ◌+◌, ◌*◌, ◌-◌, ◌^◌, ℕ, List, [], ◌∷◌, length, Option, Some, None, false, refl, sym, ap, inl, inr, subst, arith}
 use Rattle.std.specs.List.{AllByRecursion}
 use Rattle.std.proofs.lemmas.List.{append-nil}
 use Rattle.arc_core.specs.declared.ends.End.{End}
@@ -12,7 +12,7 @@ use Rattle.pipe_session.specs.declared.phase.Phase.{Phase}
 use Rattle.pipe_session.specs.declared.phase.Phase.TheVariants as phase
 use Rattle.pipe_session.specs.Desks.{Serves, ExecutesAlone, IsOwn}
 use Rattle.pipe_session.specs.Outside.{Outside, Moment}
-use Rattle.pipe_session.specs.Turns.{Standing, Deeds, SoFar, IsWithin, IsOver, WentOn, is_over}
+use Rattle.pipe_session.specs.Turns.{Standing, Deeds, IsWithin, IsOver, WentOn, is_over}
 use Rattle.arcus_tool.specs.declared.status.Status.{Status}
 use Rattle.arcus_tool.specs.declared.status.Status.TheVariants as status
 use Rattle.arcus_tool.specs.Session.{IsSession, Ends, CountsOnly, is_closed, IsStatusOf}

@@ -1,5 +1,5 @@
 -- What the program's words ask for, in their own terms: options in any order, each at most once, each in two words or in one.
-use Rattle.std.specs.Prelude.{◌≡◌, ◌⊎◌, ℕ, List, [], ◌∷◌, ◌++◌, codes, Option, Some, None}
+use Rattle.std.specs.Prelude.{◌≡◌, ◌⊎◌, ℕ, List, [], ◌∷◌, ◌++◌, codes, Some, None}
 use Rattle.std.specs.Option.{option_map_or}
 use Rattle.arcus_tool.specs.declared.words.OptionName.{OptionName}
 use Rattle.arcus_tool.specs.declared.words.Given.{Given}

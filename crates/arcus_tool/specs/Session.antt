@@ -1,5 +1,5 @@
 -- What a whole session is: from the bytes that are taken to the bytes that are sent, with the status that it ends with.
-use Rattle.std.specs.Prelude.{◌≡◌, ◌⊎◌, ℕ, ◌^◌, ◌<◌, ◌≤◌, Bool, true, false, List, [], ◌++◌, length, Some}
+use Rattle.std.specs.Prelude.{◌≡◌, ◌⊎◌, ℕ, ◌^◌, ◌<◌, ◌≤◌, Bool, true, false, List, [], length, Some}
 use Rattle.std.specs.List.{AllByRecursion}
 use Rattle.arc_core.specs.declared.ends.End.{End}
 use Rattle.arc_core.specs.declared.ends.End.TheVariants as end

@@ -5,10 +5,10 @@ use Rattle.std.proofs.lemmas.List.{append-nil}
 use Rattle.arc_core.specs.declared.ends.End.{End}
 use Rattle.arc_core.specs.declared.ends.End.TheVariants as end
 use Rattle.arc_core.specs.declared.outside.Need.{Need}
-use Rattle.arc_core.specs.Framing.{Whole, BeginsWith, IsRest, IsSpan}
+use Rattle.arc_core.specs.Framing.{BeginsWith, IsRest, IsSpan}
 use Rattle.arc_core.specs.CollectionLines.{coll_line_needs}
 use Rattle.arc_core.specs.History.{Entry}
-use Rattle.arc_core.specs.Outside.{Rose, Incoming, Outgoing, outgoing, first_then, then_sent, sent_more, CameToEnd, CameNext, FailedToPull}
+use Rattle.arc_core.specs.Outside.{Rose, Incoming, Outgoing, outgoing, first_then, then_sent, sent_more, CameToEnd, FailedToPull}
 use Rattle.arc_core.specs.SessionText.{IsQuitUnit}
 use Rattle.frame_reader.specs.Progress.{Progress, StandsFor, ready_unit}
 use Rattle.pipe_session.specs.declared.phase.Phase.{Phase}
@@ -18,12 +18,12 @@ use Rattle.pipe_session.specs.declared.turn.Turn.TheVariants as turn
 use Rattle.pipe_session.specs.declared.owed.Unsent.{Unsent}
 use Rattle.pipe_session.specs.declared.owed.Unsent.TheVariants as unsent
 use Rattle.reply_print.specs.Writing.{CountsStay}
-use Rattle.pipe_session.specs.Outside.{Outside, outside, Moment, moment}
+use Rattle.pipe_session.specs.Outside.{outside, Moment, moment}
 use Rattle.pipe_session.specs.Owing.{SentUpto, HasCause, Sends}
-use Rattle.pipe_session.specs.Units.{IsTooLong, IsBetweenUnits, NoneFinal, OnlyLastFinal}
-use Rattle.pipe_session.specs.Ends.{Ends, CountsOnly, HandledAll, IsSentInPart, SentWhole, end_behind}
-use Rattle.pipe_session.specs.Turns.{Standing, Deeds, SoFar, IsWithin, GoesOn, StopsBehind, IsOver, IsReading, LinkLeaves, TurnLeaves, WentOn, over, stopped, turn_unsent}
-use Rattle.pipe_session.proofs.Texts.{sent_more_on, sent_no_more}
+use Rattle.pipe_session.specs.Units.{IsTooLong, IsBetweenUnits, OnlyLastFinal}
+use Rattle.pipe_session.specs.Ends.{Ends, CountsOnly, HandledAll, IsSentInPart, end_behind}
+use Rattle.pipe_session.specs.Turns.{Standing, Deeds, SoFar, IsWithin, GoesOn, StopsBehind, IsOver, IsReading, LinkLeaves, TurnLeaves, WentOn, stopped, turn_unsent}
+use Rattle.pipe_session.proofs.Texts.{sent_more_on}
 use Rattle.pipe_session.proofs.Histories.{spans_more, only_of_none}
 
 -- one piece and then another

@@ -13,7 +13,7 @@ use Rattle.pipe_session.specs.Desks.{Serves, TicksThrough}
 use Rattle.pipe_session.specs.Outside.{Moment, moment, outside}
 use Rattle.pipe_session.specs.Units.{IsFinal, IsTooLong}
 use Rattle.pipe_session.specs.Handling.{stand, IsTold, HandlesUnit, HandlesNext, FeedsAll}
-use Rattle.pipe_session.specs.Turns.{Standing, Deeds, SoFar, IsWithin, GoesOn, StopsBehind, HandledOne, UnitLeaves}
+use Rattle.pipe_session.specs.Turns.{Standing, Deeds, SoFar, IsWithin, GoesOn, StopsBehind, UnitLeaves}
 use Rattle.pipe_session.proofs.Histories.{serves_on, ticks_on, spans_on, tells_on, none_on, only_last}
 
 -- neither `quit` nor a line that is too long

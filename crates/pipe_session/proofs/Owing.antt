@@ -1,13 +1,11 @@
 -- A front of what is owed is sent, and then another.
-use Rattle.std.proofs.Common.{◌≡◌, ◌≤◌, ◌+◌, ◌-◌, ℕ, List, [], ◌++◌, length, take, drop, Option, Some, None, Result, Ok, Err, refl, sym, ap, ◌∙◌, subst, append_assoc, arith}
+use Rattle.std.proofs.Common.{◌≡◌, ◌+◌, ◌-◌, ℕ, List, [], ◌++◌, take, drop, Result, Ok, Err, refl, sym, ap, ◌∙◌, subst, append_assoc, arith}
 use Rattle.std.proofs.lemmas.List.{take-append-drop, drop-drop}
-use Rattle.arc_core.specs.declared.replies.Reply.{Reply}
 use Rattle.arc_core.specs.Outside.{Rose, Outgoing, then_sent}
-use Rattle.arc_core.specs.ReplyText.{reply_text}
 use Rattle.reply_print.specs.Writing.{IsSentFrom, CountsStay}
 use Rattle.pipe_session.specs.declared.owed.Unsent.{Unsent}
 use Rattle.pipe_session.specs.declared.owed.Unsent.TheVariants as unsent
-use Rattle.pipe_session.specs.Owing.{SentUpto, HasCause, Sends, IsRestOf}
+use Rattle.pipe_session.specs.Owing.{SentUpto, HasCause, Sends}
 use Rattle.pipe_session.proofs.Texts.{sent_on, sent_nothing}
 
 -- nothing was sent

@@ -29,7 +29,7 @@ use Rattle.arc_core.specs.SessionText.{TellsUnit, AnswersItself, IsQuitUnit, sen
 use Rattle.pipe_session.specs.declared.phase.Phase.{Phase}
 use Rattle.pipe_session.specs.declared.phase.Phase.TheVariants as phase
 use Rattle.pipe_session.specs.Desks.{Answered}
-use Rattle.pipe_session.specs.Handling.{Stand, IsTold, TellsHead, AnswersLine, QuitsByLine, TellsLine, HasItsBlock, Executed, Handles, HandlesLine, HandlesUnit, heard}
+use Rattle.pipe_session.specs.Handling.{Stand, IsTold, TellsHead, AnswersLine, QuitsByLine, TellsLine, HasItsBlock, HandlesLine, HandlesUnit, heard}
 
 -- two answers that are one
 pub only_ok : {A E : Type 0} (a other : A) → (let x : Result A E = Ok a in x ≡ Ok other) → a ≡ other

@@ -1,5 +1,5 @@
 -- How a session ends: what was taken and sent by then, and which count rose.
-use Rattle.std.specs.Prelude.{◌≡◌, ◌⊎◌, ℕ, ◌^◌, ◌<◌, ◌≤◌, Bool, true, false, List, [], ◌∷◌, ◌++◌, length, Option, IfSome}
+use Rattle.std.specs.Prelude.{◌≡◌, ℕ, ◌^◌, ◌<◌, ◌≤◌, Bool, true, false, List, [], ◌∷◌, ◌++◌, length, Option, IfSome}
 use Rattle.arc_core.specs.Outside.{Rose, then_sent, sent_more}
 use Rattle.arc_core.specs.Framing.{Whole, IsRest}
 use Rattle.arc_core.specs.CollectionLines.{coll_line_needs}

@@ -1,20 +1,19 @@
 -- How the units of a session are handled, one after another. For the functions within: no public clause cites it.
-use Rattle.std.specs.Prelude.{◌≡◌, ◌⊎◌, ℕ, ◌<◌, ◌≤◌, if◌then◌else◌, List, [], ◌∷◌, ◌++◌, length, take, drop, Option, Some, None}
+use Rattle.std.specs.Prelude.{◌≡◌, ◌⊎◌, ℕ, ◌<◌, ◌≤◌, if◌then◌else◌, List, [], ◌∷◌, ◌++◌, length, take, Option, Some, None}
 use Rattle.arc_core.specs.declared.outside.Need.TheVariants as need
 use Rattle.arc_core.specs.declared.replies.Word.{Word}
 use Rattle.arc_core.specs.declared.replies.Word.TheVariants as word
 use Rattle.arc_core.specs.declared.coll_commands.CollHead.{CollHead}
-use Rattle.arc_core.specs.Framing.{Whole, BeginsWith, IsSpan, line_too_long}
+use Rattle.arc_core.specs.Framing.{Whole, IsSpan, line_too_long}
 use Rattle.arc_core.specs.CollectionLines.{SpellsRequest, IsCollUnknown, IsCollBadFormat, IsBadBlock, IsQuit, coll_line_needs, coll_answer, coll_request_of}
 use Rattle.arc_core.specs.Grammar.{is_silent}
 use Rattle.arc_core.specs.History.{Entry}
 use Rattle.arc_core.specs.ReplyText.{reply_text, word_line}
-use Rattle.arc_core.specs.SessionText.{Tells, TellsUnit, IsQuitUnit, sent_for}
+use Rattle.arc_core.specs.SessionText.{TellsUnit, IsQuitUnit, sent_for}
 use Rattle.frame_reader.specs.Progress.{Progress, StandsFor}
 use Rattle.pipe_session.specs.declared.phase.Phase.{Phase}
 use Rattle.pipe_session.specs.declared.phase.Phase.TheVariants as phase
 use Rattle.pipe_session.specs.Desks.{Serves, TicksThrough}
-use Rattle.pipe_session.specs.Units.{IsTooLong, NoneFinal, OnlyLastFinal, EndsWith}
 
 -- Where the handling of units stands: the desk, the seconds to come, and the text that is owed.
 pub record Stand (D : Type 0) : Type 0 where

@@ -1,5 +1,5 @@
 -- Text that a session owes to its link, and how it is sent.
-use Rattle.std.specs.Prelude.{◌≡◌, ℕ, ◌<◌, ◌≤◌, ◌^◌, Bool, true, false, List, [], ◌++◌, length, drop, Option, Some, None, Result, Ok, Err}
+use Rattle.std.specs.Prelude.{◌≡◌, ℕ, ◌<◌, ◌≤◌, ◌^◌, Bool, List, [], ◌++◌, length, drop, Option, Some, None, Result, Ok, Err}
 use Rattle.arc_core.specs.declared.replies.Reply.{Reply}
 use Rattle.arc_core.specs.Outside.{Outgoing, then_sent}
 use Rattle.arc_core.specs.ReplyText.{reply_text}

@@ -1,5 +1,5 @@
 -- What a session has done since it began, and what one turn adds.
-use Rattle.std.specs.Prelude.{◌≡◌, ◌⊎◌, ℕ, ◌+◌, ◌*◌, ◌-◌, ◌^◌, ◌<◌, ◌≤◌, Bool, true, false, List, [], ◌∷◌, ◌++◌, length, Option, Some, None}
+use Rattle.std.specs.Prelude.{◌≡◌, ◌⊎◌, ℕ, ◌<◌, Bool, true, false, List, [], ◌∷◌, ◌++◌, length, Option, Some, None}
 use Rattle.arc_core.specs.Outside.{Rose, first_then, sent_more}
 use Rattle.arc_core.specs.Framing.{Whole, BeginsWith}
 use Rattle.arc_core.specs.CollectionLines.{coll_line_needs}
@@ -15,7 +15,7 @@ use Rattle.pipe_session.specs.declared.owed.Unsent.TheVariants as unsent
 use Rattle.pipe_session.specs.declared.phase.Phase.{Phase}
 use Rattle.pipe_session.specs.declared.phase.Phase.TheVariants as phase
 use Rattle.pipe_session.specs.Desks.{Serves, TicksThrough}
-use Rattle.pipe_session.specs.Outside.{Outside, Moment}
+use Rattle.pipe_session.specs.Outside.{Moment}
 use Rattle.pipe_session.specs.Ends.{Ends, CountsOnly, is_closed}
 use Rattle.pipe_session.specs.Units.{IsTooLong, NoneFinal, OnlyLastFinal, EndsWith, IsBetweenUnits, IsUnread}
 

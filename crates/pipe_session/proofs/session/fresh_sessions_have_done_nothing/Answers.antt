@@ -1,5 +1,4 @@
-use Rattle.std.proofs.Common.{[], sym, ap, refl, ◌∙◌, subst}
-use Rattle.pipe_session.specs.declared.phase.Phase.TheVariants as phase
+use Rattle.std.proofs.Common.{[], sym, refl, subst}
 use Rattle.pipe_session.specs.Turns.{IsWithin, no_deeds}
 use Rattle.pipe_session.proofs.Texts.{sent_no_more}
 use Rattle.pipe_session.proofs.Ending.{took_nothing}

@@ -1,6 +1,4 @@
-use Rattle.std.proofs.Common.{◌++◌, [], sym, ap, ◌∙◌, refl}
-use Rattle.std.specs.Prelude.{if◌then◌else◌}
-use Rattle.std.proofs.lemmas.List.{append-nil}
+use Rattle.std.proofs.Common.{refl}
 use Rattle.arc_core.specs.PlainRequest.{plain}
 use Rattle.pipe_session.proofs.Telling.{told_request, told_bad_block, owes_all, owes_nothing}
 use Rattle.pipe_session.proofs.units.execute.Goals as goal

@@ -1,5 +1,5 @@
-use Rattle.std.proofs.Common.{◌≡◌, [], Some, None, sym, subst, arith}
-use Rattle.pipe_session.specs.Handling.{stand, TakesFront, TakesNext}
+use Rattle.std.proofs.Common.{subst, arith}
+use Rattle.pipe_session.specs.Handling.{stand, TakesNext}
 use Rattle.pipe_session.proofs.Texts.{none_of_length}
 use Rattle.pipe_session.proofs.Fronts.{front_next}
 use Rattle.pipe_session.proofs.units.take_unit.Goals as goal

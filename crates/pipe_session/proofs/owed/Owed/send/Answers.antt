@@ -1,4 +1,4 @@
-use Rattle.std.proofs.Common.{◌++◌, refl, sym, subst}
+use Rattle.std.proofs.Common.{◌++◌, refl, subst}
 use Rattle.pipe_session.specs.Owing.{Owing, Sends, rest_of}
 use Rattle.arc_core.specs.Outside.{outgoing}
 use Rattle.pipe_session.proofs.Owing.{sends_both}

@@ -1,4 +1,4 @@
-use Rattle.std.proofs.Common.{◌≡◌, length, drop, ap, ◌∙◌, arith}
+use Rattle.std.proofs.Common.{length, drop, ap, ◌∙◌, arith}
 use Rattle.pipe_session.proofs.Pieces.{passed}
 use Rattle.pipe_session.proofs.piece.Piece.pass.Goals as goal
 

@@ -1,4 +1,4 @@
-use Rattle.std.proofs.Common.{refl, Ok}
+use Rattle.std.proofs.Common.{refl}
 use Rattle.pipe_session.proofs.Ending.{sent_seen, unsent_seen, link_since, with_gone}
 use Rattle.pipe_session.proofs.session.Session.exchange.Goals as goal
 

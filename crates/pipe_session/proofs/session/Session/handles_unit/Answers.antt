@@ -1,4 +1,4 @@
-use Rattle.std.proofs.Common.{◌≡◌, ◌<◌, ◌∙◌, [], Some, None, length, drop, sym, ap, refl, subst, arith, length-drop}
+use Rattle.std.proofs.Common.{◌<◌, ◌∙◌, Some, None, length, drop, ap, refl, subst, arith, length-drop}
 use Rattle.std.proofs.Math.Seq.{drop-length}
 use Rattle.pipe_session.specs.Handling.{stand, TakesNext}
 use Rattle.pipe_session.proofs.Going.{handled_seen, fed_seen}

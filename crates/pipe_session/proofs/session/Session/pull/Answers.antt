@@ -1,6 +1,6 @@
-use Rattle.std.proofs.Common.{◌≡◌, ◌<◌, ◌^◌, ◌∙◌, ◌+◌, refl, sym, ap, subst, arith}
+use Rattle.std.proofs.Common.{◌<◌, ◌^◌, ◌∙◌, ◌+◌, refl, sym, ap, subst, arith}
 use Rattle.arc_core.specs.declared.ends.End.TheVariants as end
-use Rattle.arc_core.specs.Outside.{incoming, outgoing}
+use Rattle.arc_core.specs.Outside.{incoming}
 use Rattle.pipe_session.specs.declared.turn.Turn.TheVariants as turn
 use Rattle.pipe_session.specs.Outside.{moment, outside}
 use Rattle.pipe_session.specs.Turns.{Standing, IsOver, LinkLeaves}

@@ -1,4 +1,4 @@
-use Rattle.std.proofs.Common.{refl, ap, Ok}
+use Rattle.std.proofs.Common.{refl, ap}
 use Rattle.pipe_session.proofs.Ending.{sent_seen, unsent_seen, turn_since, turn_by_link, with_gone}
 use Rattle.pipe_session.proofs.session.Session.turn.Goals as goal
 

@@ -1,4 +1,4 @@
-use Rattle.std.proofs.Common.{◌≡◌, refl, inr, sym, subst}
+use Rattle.std.proofs.Common.{refl, inr}
 use Rattle.pipe_session.proofs.Ending.{turn_by_link}
 use Rattle.pipe_session.proofs.session.Session.work.Goals as goal
 
