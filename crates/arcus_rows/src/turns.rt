@@ -101,25 +101,28 @@ fn input_is_cut_anywhere(rt: HostRuntime) -> Result<(), Fail> {
     Ok(())
 }
 
-// Each unit comes in a piece of its own, and has a turn; so have each pull that brings bytes, and the end. A call that is
+// The pulls and the pushes that are to be made again, how many turns there are, and how many answer `Again`. Each of the
+// two units comes in a piece of its own, and has a turn; so have each pull that brings bytes, and the end. A call that is
 // to be made again costs one turn more, where it is made: there are three pulls and two pushes.
+const MADE_AGAIN: [(&[u64], &[u64], u64, u64); 9] = [
+    (&[], &[], 5, 0),
+    (&[0], &[], 6, 1),
+    (&[1], &[], 6, 1),
+    (&[2], &[], 6, 1),
+    (&[3], &[], 5, 0),
+    (&[], &[0], 6, 1),
+    (&[], &[1], 6, 1),
+    (&[], &[2], 5, 0),
+    (&[1], &[1], 7, 2),
+];
+
 #[test]
 fn each_call_is_made_again(rt: HostRuntime) -> Result<(), Fail> {
-    for (again_pulls, again_pushes, turns, agains) in [
-        ([9], [9], 5, 0),
-        ([0], [9], 6, 1),
-        ([1], [9], 6, 1),
-        ([2], [9], 6, 1),
-        ([3], [9], 5, 0),
-        ([9], [0], 6, 1),
-        ([9], [1], 6, 1),
-        ([9], [2], 5, 0),
-        ([1], [1], 7, 2),
-    ] {
+    for (again_pulls, again_pushes, turns, agains) in MADE_AGAIN {
         let manner = Manner {
             lengths: &[18],
-            again_pulls: &again_pulls,
-            again_pushes: &again_pushes,
+            again_pulls,
+            again_pushes,
             ..STEADY
         };
         let turned = expect_turns(&rt, rt.alloc(), manner, STORE_AND_GET)?;
@@ -128,13 +131,20 @@ fn each_call_is_made_again(rt: HostRuntime) -> Result<(), Fail> {
     Ok(())
 }
 
-// A link that is to be asked again, takes one byte, and is to be asked again, from each of a long text's pushes on.
+// The pushes that are to be made again, and the one between them that takes one byte.
+const LONG_TEXT_PUSHES: [(&[u64], &[u64]); 4] = [
+    (&[0, 2], &[1]),
+    (&[1, 3], &[2]),
+    (&[2, 4], &[3]),
+    (&[3, 5], &[4]),
+];
+
 #[test]
 fn long_texts_go_on(rt: HostRuntime) -> Result<(), Fail> {
-    for (again_pushes, partial_push) in [([0, 2], 1), ([1, 3], 2), ([2, 4], 3), ([3, 5], 4)] {
+    for (again_pushes, partial_pushes) in LONG_TEXT_PUSHES {
         let manner = Manner {
-            again_pushes: &again_pushes,
-            partial_pushes: &[partial_push],
+            again_pushes,
+            partial_pushes,
             ..STEADY
         };
         let turned = expect_turns(&rt, rt.alloc(), manner, LONG_VALUE)?;
