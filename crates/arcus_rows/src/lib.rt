@@ -28,3 +28,7 @@ mod pushes;
 mod rows;
 #[cfg(test)]
 mod sets;
+#[cfg(test)]
+mod turning;
+#[cfg(test)]
+mod turns;
