@@ -28,7 +28,3 @@ mod pushes;
 mod rows;
 #[cfg(test)]
 mod sets;
-#[cfg(test)]
-mod turning;
-#[cfg(test)]
-mod turns;

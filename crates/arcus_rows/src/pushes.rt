@@ -76,16 +76,16 @@ fn texts_wait_up_to_16384_bytes(rt: HostRuntime) -> Result<(), Fail> {
 #[test]
 fn long_values_go_out_alone(rt: HostRuntime) -> Result<(), Fail> {
     let input = "set a 0 0 16385|{16385x}|get a|version|";
-    // The first sends what waited, the second the value, and the third what is behind it.
-    let third_push = Setting {
-        failing_pushes: &[2],
+    // The first sends what waited, the second the value's line, the third the value, and the fourth what is behind it.
+    let fourth_push = Setting {
+        failing_pushes: &[3],
         ..DEFAULT
     };
     let front = "STORED|VALUE a 0 16385|{16385x}";
     expect(
         &rt,
         rt.alloc(),
-        third_push,
+        fourth_push,
         input,
         front,
         Status::WriteFault,

@@ -1,11 +1,12 @@
 -- A front of what is owed is sent, and then another.
-use Rattle.std.proofs.Common.{◌≡◌, ◌+◌, ◌-◌, ℕ, List, [], ◌++◌, take, drop, Result, Ok, Err, refl, sym, ap, ◌∙◌, subst, append_assoc, arith}
+use Rattle.std.proofs.Common.{◌≡◌, ◌+◌, ◌-◌, ℕ, List, [], ◌++◌, take, drop, Result, Ok, Err, refl, sym, ap, ◌∙◌, subst, append_assoc, arith, is_some, false, Some, None, Option}
 use Rattle.std.proofs.lemmas.List.{take-append-drop, drop-drop}
+use Rattle.arc_core.specs.declared.replies.Reply.{Reply}
 use Rattle.arc_core.specs.Outside.{Rose, Outgoing, then_sent}
 use Rattle.reply_print.specs.Writing.{IsSentFrom, CountsStay}
 use Rattle.pipe_session.specs.declared.owed.Unsent.{Unsent}
 use Rattle.pipe_session.specs.declared.owed.Unsent.TheVariants as unsent
-use Rattle.pipe_session.specs.Owing.{SentUpto, HasCause, Sends}
+use Rattle.pipe_session.specs.Owing.{SentUpto, HasCause, Sends, rest_of}
 use Rattle.pipe_session.proofs.Texts.{sent_on, sent_nothing}
 
 -- nothing was sent
@@ -92,3 +93,8 @@ pub sends_both : (before between after : Outgoing) (agains middle agains' : ℕ)
 sends_both before between after agains middle agains' first first' kept next next' result is none same then =
     subst (λ k. Sends before after agains agains' (first ++ next) (k ++ next') result) (sym (same ∙ none))
     (sends_on before between after agains middle agains' first next next' result (subst (λ f. Sends before between agains middle first f (Ok tt)) none is) then)
+
+-- where no reply is owed there is no rest of one
+pub no_rest : (long : Option Reply) (at : ℕ) → is_some long ≡ false → rest_of long at ≡ []
+no_rest None at none = refl
+no_rest (Some reply) at none = absurd cc

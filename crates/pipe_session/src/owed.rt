@@ -69,8 +69,10 @@ impl Owed {
         requires fits { length (reply_text reply) < 2 ^ 64 }
         ensures { self.new.text ≡ self.old.text ++ reply_text reply }
     {
-        let waits = self.waiting.put(&reply);
-        self.long = unless(waits, reply);
+        if self.waiting.put(&reply) {
+            return;
+        }
+        self.long = Some(reply);
         self.at = 0;
     }
 
@@ -121,13 +123,6 @@ impl Owed {
         self.long = None;
         self.at = 0;
     }
-}
-
-// The reply, where it does not wait.
-fn unless(waits: bool, reply: Reply) -> Option<Reply>
-    ensures { result ≡ (if waits then None else Some reply) }
-{
-    if waits { None } else { Some(reply) }
 }
 
 // Puts the reply's text among those that wait, where there is a reply of which nothing was sent and its text has room, and

@@ -1,0 +1,12 @@
+use Rattle.std.proofs.Common.{◌++◌, sym, ap, ◌∙◌}
+use Rattle.std.proofs.lemmas.List.{append-nil}
+use Rattle.arc_core.specs.ReplyText.{reply_text}
+use Rattle.pipe_session.specs.Owing.{Owing}
+use Rattle.pipe_session.proofs.Owing.{no_rest}
+use Rattle.pipe_session.proofs.owed.Owed.put.Goals as goal
+
+pub returns : goal.returns
+returns c =
+    let waiting = c.self.inside.waiting in
+    let none = no_rest c.self.inside.long c.self.inside.at (ap (λ (o : Owing). o.is_full) c.self.view_is ∙ c.requires.room) in
+    ap (λ t. t ++ reply_text c.args.reply) (c.if-put.ensures.0 ∙ sym (append-nil waiting) ∙ ap (λ r. waiting ++ r) (sym none) ∙ ap (λ (o : Owing). o.text) c.self.view_is)
