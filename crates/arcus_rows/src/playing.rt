@@ -1,8 +1,8 @@
 //! The top call over an outside that is given and handed back.
 ghost use Rattle.std.specs.Prelude.{◌≡◌, map, string_bytes};
 ghost use Rattle.arc_core.specs.Outside.{incoming, outgoing};
-ghost use Rattle.arcus_tool.specs.Session.{outside};
 ghost use Rattle.arcus_tool.specs.Words.{Runs};
+ghost use Rattle.pipe_session.specs.Outside.{outside};
 
 use arc_core::{Clock, Sink, Source};
 use arcus_tool::{Status, World, run};
