@@ -105,7 +105,7 @@ len_word = number_below (2 ^ 31)
 unfoldable pub number_of_fields : ℕ → List ℕ → Option ℕ
 number_of_fields len word = if len == 0 then number_below 1 word else number_from_1 50001 word
 
--- a head of this command, whose answer is sent where the line does not say `noreply`
+-- a head of this command, whose answer is sent as the line says, or else as a text of its own
 abbrev pub head : CollCommand → Option Answer → CollHead
 head asked silent = coll_head.Collection asked (option_map_or (λ a. a) silent answer.Plain)
 
@@ -114,6 +114,20 @@ abbrev pub ends : CollCommand → Row CollHead
 ends asked = do
   silent ← noreply
   gives (head asked silent)
+
+-- the word `pipe`
+unfoldable pub pipe_word : List ℕ → Option Answer
+pipe_word word = if bytes_eq word (codes "pipe") then Some answer.Pipe else None
+
+-- the word `noreply` or `pipe`
+unfoldable pub sent_word : List ℕ → Option Answer
+sent_word word = if bytes_eq word (codes "noreply") then Some answer.NoReply else pipe_word word
+
+-- the line ends, or says `noreply` or `pipe`
+abbrev pub ends_or_pipes : CollCommand → Row CollHead
+ends_or_pipes asked = do
+  sent ← perhaps (one sent_word)
+  gives (head asked sent)
 
 -- the attributes that a line names
 abbrev pub args_of : Kind → ℕ → ℤ → ℕ → Option Action → Option Bool → CreateArgs

@@ -13,7 +13,7 @@ use Rattle.arc_core.specs.declared.commands.CommandName.{CommandName}
 use Rattle.arc_core.specs.declared.outside.Need.{Need}
 use Rattle.arc_core.specs.declared.outside.Need.TheVariants as need
 use Rattle.arc_core.specs.declared.requests.Answer.{Answer}
-use Rattle.arc_core.specs.Grammar.{IsHead, IsBadFormat, Meets, command_of, row_of, need_of, is_quit, is_silent, block_limit, request_of}
+use Rattle.arc_core.specs.Grammar.{IsHead, IsBadFormat, Meets, command_of, row_of, need_of, is_quit, is_silent, is_pipe, block_limit, request_of}
 use Rattle.arc_core.specs.ListGrammar.{create_row, list_insert_row, list_delete_row, list_get_row}
 use Rattle.arc_core.specs.MapGrammar.{map_insert_row, map_update_row, map_upsert_row, map_delete_row, map_get_row}
 use Rattle.arc_core.specs.PlainRequest.{PlainAct, PlainRequest}
@@ -160,6 +160,10 @@ coll_is_quit (coll_head.Collection asked answer) = false
 abbrev pub coll_answer : CollHead → Answer
 coll_answer (coll_head.KeyValue head) = head.answer
 coll_answer (coll_head.Collection asked answer) = answer
+
+-- whether the head is a piped command: its line ends with `pipe`
+abbrev pub coll_is_marked : CollHead → Bool
+coll_is_marked head = is_pipe (coll_answer head)
 
 -- whether the line asks that no answer be sent, whatever happens to it
 abbrev pub coll_line_is_silent : List ℕ → Bool

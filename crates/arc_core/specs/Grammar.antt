@@ -102,8 +102,13 @@ is_quit other = false
 
 -- whether no answer is sent
 abbrev pub is_silent : Answer → Bool
-is_silent answer.Plain = false
 is_silent answer.NoReply = true
+is_silent other = false
+
+-- whether the answer is one of a run of piped commands
+abbrev pub is_pipe : Answer → Bool
+is_pipe answer.Pipe = true
+is_pipe other = false
 
 -- whether the line asks that no answer be sent, whatever happens to it
 abbrev pub line_is_silent : List ℕ → Bool

@@ -31,7 +31,6 @@ pub mod ReplyText
 pub mod RequestLimits
 pub mod Room
 pub mod Rows
-pub mod SessionText
 pub mod SetGrammar
 pub mod SetReading
 pub mod SetRows

@@ -9,7 +9,7 @@ use Rattle.arc_core.specs.declared.collections.Kind.TheVariants as kind
 use Rattle.arc_core.specs.declared.collections.Take.TheVariants as taking
 use Rattle.arc_core.specs.declared.outside.Need.TheVariants as need
 use Rattle.arc_core.specs.declared.requests.Answer.TheVariants as answer
-use Rattle.arc_core.specs.CollectionGrammar.{index_word, index_range_word, action_word, unreadable_word, create_word, drop_word, take_word, number_of_fields, field_word}
+use Rattle.arc_core.specs.CollectionGrammar.{index_word, index_range_word, action_word, unreadable_word, create_word, drop_word, take_word, number_of_fields, field_word, sent_word, pipe_word}
 use Rattle.arc_core.specs.CollectionLines.{coll_head_of, coll_line_needs, coll_name_of}
 use Rattle.arc_core.specs.Grammar.{command_of}
 use Rattle.arc_core.specs.KeyValueGrammar.{noreply_word}
@@ -31,16 +31,16 @@ reads_create = refl
 -- an insert that makes its list, and one that does not
 reads_insert_and_create : coll_head_of (words (codes "lop insert l -1 3 create 7 0 0 error"))
     ≡ Some (coll_head.Collection (command.ListInsert (codes "l") (negsuc 0) 3 (Some (named 7 (pos 0) 0 action.Error))) answer.Plain)
-unfolding command_of coll_name_of list_insert_row key_word index_word number_below create_word exptime_word action_word unreadable_word noreply_word
+unfolding command_of coll_name_of list_insert_row key_word index_word number_below create_word exptime_word action_word unreadable_word sent_word pipe_word
 reads_insert_and_create = refl
 
 reads_insert : coll_head_of (words (codes "lop insert l 0 3 noreply")) ≡ Some (coll_head.Collection (command.ListInsert (codes "l") (pos 0) 3 None) answer.NoReply)
-unfolding command_of coll_name_of list_insert_row key_word index_word number_below create_word noreply_word
+unfolding command_of coll_name_of list_insert_row key_word index_word number_below create_word sent_word pipe_word
 reads_insert = refl
 
 -- an action that a set cannot have
 refuses_an_action : coll_head_of (words (codes "sop insert s 3 create 7 0 0 tail_trim")) ≡ None
-unfolding command_of coll_name_of set_insert_row key_word number_below create_word exptime_word action_word unreadable_word noreply_word
+unfolding command_of coll_name_of set_insert_row key_word number_below create_word exptime_word action_word unreadable_word sent_word pipe_word
 refuses_an_action = refl
 
 -- a range, and a single index
@@ -49,7 +49,7 @@ unfolding command_of coll_name_of list_get_row key_word index_range_word index_w
 reads_a_range = refl
 
 reads_a_single_index : coll_head_of (words (codes "lop delete l 5 drop noreply")) ≡ Some (coll_head.Collection (command.ListDelete (codes "l") (record { first = pos 5; last = pos 5; single = true }) true) answer.NoReply)
-unfolding command_of coll_name_of list_delete_row key_word index_range_word index_word number_below drop_word noreply_word
+unfolding command_of coll_name_of list_delete_row key_word index_range_word index_word number_below drop_word sent_word pipe_word
 reads_a_single_index = refl
 
 -- one dot, three dots and nothing behind the dots are no range
@@ -93,7 +93,7 @@ needs_fields = refl
 
 -- an element's block
 needs_an_element : coll_line_needs (codes "mop insert m f 40000") ≡ need.Block 40000 32768
-unfolding command_of coll_name_of map_insert_row key_word field_word number_below create_word noreply_word
+unfolding command_of coll_name_of map_insert_row key_word field_word number_below create_word sent_word pipe_word
 needs_an_element = refl
 
 -- the second word decides too
@@ -106,6 +106,24 @@ refuses_noreply : coll_head_of (words (codes "sop get s 0 noreply")) ≡ None
 unfolding command_of coll_name_of set_get_row key_word number_below take_word
 refuses_noreply = refl
 
-refuses_pipe : coll_head_of (words (codes "sop exist s 1 pipe")) ≡ None
-unfolding command_of coll_name_of set_exist_row key_word number_below
-refuses_pipe = refl
+-- a change may be piped, and so may the question whether a set has a value
+reads_a_piped_insert : coll_head_of (words (codes "lop insert l 0 3 pipe")) ≡ Some (coll_head.Collection (command.ListInsert (codes "l") (pos 0) 3 None) answer.Pipe)
+unfolding command_of coll_name_of list_insert_row key_word index_word number_below create_word sent_word pipe_word
+reads_a_piped_insert = refl
+
+reads_a_piped_question : coll_head_of (words (codes "sop exist s 1 pipe")) ≡ Some (coll_head.Collection (command.SetExist (codes "s") 1) answer.Pipe)
+unfolding command_of coll_name_of set_exist_row key_word number_below pipe_word
+reads_a_piped_question = refl
+
+-- that question has an answer in any case; a read and a collection that is made are not piped
+refuses_a_silent_question : coll_head_of (words (codes "sop exist s 1 noreply")) ≡ None
+unfolding command_of coll_name_of set_exist_row key_word number_below pipe_word
+refuses_a_silent_question = refl
+
+refuses_a_piped_read : coll_head_of (words (codes "sop get s 0 pipe")) ≡ None
+unfolding command_of coll_name_of set_get_row key_word number_below take_word
+refuses_a_piped_read = refl
+
+refuses_a_piped_create : coll_head_of (words (codes "sop create s 0 0 0 pipe")) ≡ None
+unfolding command_of coll_name_of create_row key_word number_below exptime_word action_word unreadable_word noreply_word
+refuses_a_piped_create = refl

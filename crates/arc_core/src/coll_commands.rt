@@ -1,7 +1,7 @@
 //! Commands on collections: what a line asks for, before its block is there.
 
 ghost use Rattle.std.specs.Prelude.{◌≡◌};
-ghost use Rattle.arc_core.specs.CollectionLines.{coll_command_needs, coll_need_of, coll_is_quit, coll_answer, fields_need};
+ghost use Rattle.arc_core.specs.CollectionLines.{coll_command_needs, coll_need_of, coll_is_quit, coll_is_marked, coll_answer, fields_need};
 ghost use Rattle.arc_core.specs.Grammar.{is_silent};
 
 use crate::{
@@ -197,6 +197,16 @@ impl<'a> CollHead<'a> {
         match self {
             CollHead::KeyValue(head) => head.is_silent(),
             CollHead::Collection { answer, .. } => answer.is_silent(),
+        }
+    }
+
+    /// Whether it is a piped command: the line ends with `pipe`.
+    pub fn is_marked(&self) -> bool
+        ensures { result ≡ coll_is_marked self.now }
+    {
+        match self {
+            CollHead::KeyValue(head) => head.answer.is_pipe(),
+            CollHead::Collection { answer, .. } => answer.is_pipe(),
         }
     }
 }

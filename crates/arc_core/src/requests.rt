@@ -1,7 +1,7 @@
 //! Requests: what a client asks of the cache, borrowed from its line and block.
 
 ghost use Rattle.std.specs.Prelude.{◌≡◌};
-ghost use Rattle.arc_core.specs.Grammar.{is_silent};
+ghost use Rattle.arc_core.specs.Grammar.{is_silent, is_pipe};
 
 use crate::{CreateArgs, IndexRange, KeyRef, KeyWords, Kind, Take};
 
@@ -12,6 +12,8 @@ pub enum Answer {
     Plain,
     /// Not at all. (memcached's `noreply`.)
     NoReply,
+    /// As a line among those of its run of piped commands. (ARCUS's `pipe`.)
+    Pipe,
 }
 
 impl Answer {
@@ -20,8 +22,18 @@ impl Answer {
         ensures { result ≡ is_silent self }
     {
         match self {
-            Answer::Plain => false,
             Answer::NoReply => true,
+            Answer::Plain | Answer::Pipe => false,
+        }
+    }
+
+    /// Whether the answer is one of a run of piped commands.
+    pub fn is_pipe(self) -> bool
+        ensures { result ≡ is_pipe self }
+    {
+        match self {
+            Answer::Pipe => true,
+            Answer::Plain | Answer::NoReply => false,
         }
     }
 }

@@ -9,7 +9,7 @@ use Rattle.arc_core.specs.CacheState.{CacheState}
 use Rattle.arc_core.specs.Framing.{Whole, IsSpan, IsRest, BeginsWith, line, line_with_block, bad_chunk, too_large, block_no_memory, line_too_long}
 use Rattle.arc_core.specs.CollectionLines.{coll_line_needs}
 use Rattle.arc_core.specs.Outside.{first_then}
-use Rattle.arc_core.specs.SessionText.{IsQuitUnit}
+use Rattle.pipe_session.specs.SessionText.{IsQuitUnit}
 use Rattle.frame_reader.specs.Cutting.{StandsInFor, Agree, GoesOnTo}
 use Rattle.arcus_tool.specs.declared.status.Status.{Status}
 use Rattle.arcus_tool.specs.declared.status.Status.TheVariants as status

@@ -7,7 +7,7 @@ use Rattle.arc_core.specs.declared.ends.End.TheVariants as end
 use Rattle.arc_core.specs.CacheState.{CacheState, IsState}
 use Rattle.arc_core.specs.History.{Entry, Replays}
 use Rattle.arc_core.specs.Outside.{first_then, then_sent}
-use Rattle.arc_core.specs.SessionText.{Tells}
+use Rattle.pipe_session.specs.SessionText.{Tells}
 use Rattle.pipe_session.specs.declared.phase.Phase.{Phase}
 use Rattle.pipe_session.specs.declared.phase.Phase.TheVariants as phase
 use Rattle.pipe_session.specs.Desks.{Serves, ExecutesAlone, IsOwn}

@@ -8,7 +8,7 @@ use Rattle.arc_core.specs.Framing.{Whole, BeginsWith}
 use Rattle.arc_core.specs.CollectionLines.{coll_line_needs}
 use Rattle.arc_core.specs.CacheState.{CacheState, IsState}
 use Rattle.arc_core.specs.History.{Entry, Replays}
-use Rattle.arc_core.specs.SessionText.{Tells, IsQuitUnit}
+use Rattle.pipe_session.specs.SessionText.{Tells, IsQuitUnit}
 use Rattle.pipe_session.specs.Desks.{TicksThrough, IsOwn}
 use Rattle.pipe_session.specs.Outside.{Outside}
 use Rattle.pipe_session.specs.Units.{IsTooLong, OnlyLastFinal, EndsWith}

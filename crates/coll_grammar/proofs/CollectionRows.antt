@@ -1,7 +1,7 @@
 -- The rows of the commands on collections are clear, what is spelled by them is read; and what they spell is a command on
 -- a collection.
-use Rattle.std.proofs.Common.{◌≡◌, ℕ, Bool, true, false, if◌then◌else◌, List, ◌++◌, refl, sym, subst, Option, Some, None, bytes_eq}
-use Rattle.std.specs.Prelude.{codes}
+use Rattle.std.proofs.Common.{◌≡◌, ℕ, Bool, true, false, if◌then◌else◌, List, ◌++◌, refl, sym, subst, Option, Some, None, bytes_eq, inl, inr}
+use Rattle.std.specs.Prelude.{codes, ◌⊎◌}
 use Rattle.std.specs.Bool.{Decides}
 use Rattle.std.proofs.lemmas.Slice.Eq.{bytes_eq-Decides}
 use Rattle.arc_core.specs.declared.attributes.CreateArgs.{CreateArgs}
@@ -14,13 +14,15 @@ use Rattle.arc_core.specs.declared.coll_commands.CollName.TheVariants as named
 use Rattle.arc_core.specs.declared.collections.Kind.{Kind}
 use Rattle.arc_core.specs.declared.collections.Kind.TheVariants as kind
 use Rattle.arc_core.specs.declared.commands.Head.{Head}
-use Rattle.arc_core.specs.CollectionGrammar.{action_word, unreadable_word, create_word, drop_word, head, ends, args_of, attributes, attributes_behind, creation}
+use Rattle.arc_core.specs.declared.requests.Answer.{Answer}
+use Rattle.arc_core.specs.declared.requests.Answer.TheVariants as answer
+use Rattle.arc_core.specs.CollectionGrammar.{action_word, unreadable_word, create_word, drop_word, head, ends, ends_or_pipes, pipe_word, sent_word, args_of, attributes, attributes_behind, creation}
 use Rattle.arc_core.specs.CollectionLines.{coll_row_of}
 use Rattle.arc_core.specs.ListGrammar.{create_row, list_insert_row, list_delete_row, list_get_row}
 use Rattle.arc_core.specs.MapGrammar.{map_insert_row, map_update_row, map_upsert_row, map_delete_row, map_get_row}
 use Rattle.arc_core.specs.Rows.{Row, one, perhaps, followed_by, gives, Spells, SpellsPart, part_read}
 use Rattle.arc_core.specs.SetGrammar.{set_insert_row, set_delete_row, set_exist_row, set_get_row}
-use Rattle.line_grammar.proofs.KeyValueRows.{noreply-is_other, noreply-is_clear}
+use Rattle.arc_core.specs.KeyValueGrammar.{noreply_word}
 use Rattle.line_grammar.proofs.RowLemmas.{IsClear, IsOther, one-is_clear, perhaps-is_clear}
 
 -- the words that may be left out are different words
@@ -32,6 +34,14 @@ action_is_no_noreply kind.List = refl
 action_is_no_noreply kind.Set = refl
 action_is_no_noreply kind.Map = refl
 action_is_no_noreply kind.Tree = refl
+
+action_is_no_pipe : (of : Kind) → action_word of (codes "pipe") ≡ None
+unfolding action_word
+action_is_no_pipe kind.Kv = refl
+action_is_no_pipe kind.List = refl
+action_is_no_pipe kind.Set = refl
+action_is_no_pipe kind.Map = refl
+action_is_no_pipe kind.Tree = refl
 
 action_is_no_unreadable : (of : Kind) → action_word of (codes "unreadable") ≡ None
 unfolding action_word
@@ -45,13 +55,55 @@ unreadable_is_no_noreply : unreadable_word (codes "noreply") ≡ None
 unfolding unreadable_word
 unreadable_is_no_noreply = refl
 
+unreadable_is_no_pipe : unreadable_word (codes "pipe") ≡ None
+unfolding unreadable_word
+unreadable_is_no_pipe = refl
+
 create_is_no_noreply : create_word (codes "noreply") ≡ None
 unfolding create_word
 create_is_no_noreply = refl
 
+create_is_no_pipe : create_word (codes "pipe") ≡ None
+unfolding create_word
+create_is_no_pipe = refl
+
 drop_is_no_noreply : drop_word (codes "noreply") ≡ None
 unfolding drop_word
 drop_is_no_noreply = refl
+
+drop_is_no_pipe : drop_word (codes "pipe") ≡ None
+unfolding drop_word
+drop_is_no_pipe = refl
+
+-- The word is one of those that say how an answer is sent.
+abbrev SaysHowSent : List ℕ → Type 0
+SaysHowSent word = (word ≡ codes "noreply") ⊎ (word ≡ codes "pipe")
+
+-- All words of the kind are.
+abbrev SayHowSent : (List ℕ → Option Answer) → Type 0
+SayHowSent kind = (word : List ℕ) (sent : Answer) → kind word ≡ Some sent → SaysHowSent word
+
+from_word : {P : Type 0} (test : Bool) (said sent : Answer) → Decides test P → (if test then Some said else None) ≡ Some sent → P
+from_word true said sent decides h = decides.0 refl
+from_word false said sent decides h = cc
+
+from_two_words : {P Q : Type 0} (test : Bool) (said sent : Answer) (other : Option Answer) → Decides test P → (other ≡ Some sent → Q)
+    → (if test then Some said else other) ≡ Some sent → P ⊎ Q
+from_two_words true said sent other decides behind h = inl (decides.0 refl)
+from_two_words false said sent other decides behind h = inr (behind h)
+
+noreply_says : SayHowSent noreply_word
+unfolding noreply_word
+noreply_says word sent h = inl (from_word (bytes_eq word (codes "noreply")) answer.NoReply sent (bytes_eq-Decides word (codes "noreply")) h)
+
+is_pipe : (word : List ℕ) (sent : Answer) → pipe_word word ≡ Some sent → word ≡ codes "pipe"
+unfolding pipe_word
+is_pipe word sent h = from_word (bytes_eq word (codes "pipe")) answer.Pipe sent (bytes_eq-Decides word (codes "pipe")) h
+
+sent_says : SayHowSent sent_word
+unfolding sent_word
+sent_says word sent h =
+    from_two_words (bytes_eq word (codes "noreply")) answer.NoReply sent (pipe_word word) (bytes_eq-Decides word (codes "noreply")) (is_pipe word sent) h
 
 from_test : {P : Type 0} (test answer : Bool) → Decides test P → (if test then Some true else None) ≡ Some answer → P
 from_test true answer decides h = decides.0 refl
@@ -62,6 +114,27 @@ unfolding unreadable_word
 is_unreadable word answer h = from_test (bytes_eq word (codes "unreadable")) answer (bytes_eq-Decides word (codes "unreadable")) h
 
 -- so what follows a part that may be left out is not read as that part
+
+-- a kind of words to which both words that say how an answer is sent do not belong
+pub record RefusesBoth {B : Type 0} (kind : List ℕ → Option B) : Type 0 where
+  pub noreply : kind (codes "noreply") ≡ None
+  pub pipe : kind (codes "pipe") ≡ None
+
+said-is_other : {B : Type 0} (kind : List ℕ → Option B) → RefusesBoth kind → (word : List ℕ) → SaysHowSent word → kind word ≡ None
+said-is_other kind refuses word (inl at) = rw (at, refuses.noreply) refl
+said-is_other kind refuses word (inr at) = rw (at, refuses.pipe) refl
+
+last_word-is_other : {B : Type 0} (kind : List ℕ → Option B) (last : List ℕ → Option Answer) → RefusesBoth kind → SayHowSent last
+    → (sent : Option Answer) (list front back : List (List ℕ)) → list ≡ front ++ back → SpellsPart (perhaps (one last)) front sent → back ≡ []
+    → part_read (one kind) list ≡ None
+last_word-is_other kind last refuses say None list front back at spelled end = rw (at, spelled, end) refl
+last_word-is_other kind last refuses say (Some sent) list front back at spelled end =
+    rw (at, spelled.1, said-is_other kind refuses spelled.0 (say spelled.0 sent spelled.2)) refl
+
+sent-is_other : {A B : Type 0} (kind : List ℕ → Option B) (last : List ℕ → Option Answer) (result : Option Answer → A) → RefusesBoth kind → SayHowSent last
+    → IsOther (one kind) (followed_by (perhaps (one last)) (λ sent. gives (result sent)))
+sent-is_other kind last result refuses say =
+    λ back a spelled. last_word-is_other kind last refuses say spelled.0 back spelled.1 spelled.2 spelled.3 spelled.4 spelled.5.0
 
 first_word-is_other : {A B : Type 0} (kind : List ℕ → Option B) (next : Option Bool → Row A) → kind (codes "unreadable") ≡ None
     → IsOther (one kind) (next None)
@@ -76,45 +149,63 @@ unreadable-is_other : {A B : Type 0} (kind : List ℕ → Option B) (next : Opti
 unreadable-is_other kind next refused other =
     λ back a spelled. first_word-is_other kind next refused other spelled.0 back spelled.1 spelled.2 a spelled.3 spelled.4 spelled.5
 
--- attributes are clear before the end of the line
-attributes-is_clear : (of : Kind) (asked : CreateArgs → CollCommand) → IsClear (attributes of (λ args. ends (asked args)))
-attributes-is_clear of asked = (
-  one-is_clear _ _,
-  λ flags. (
-    one-is_clear _ _,
-    λ exptime. (
-      one-is_clear _ _,
-      λ maxcount. (
-        perhaps-is_clear _ _ (one-is_clear _ _)
-            (unreadable-is_other (action_word of) (λ unreadable. ends (asked (args_of of flags exptime maxcount None unreadable))) (action_is_no_unreadable of)
-            (noreply-is_other (action_word of) (head (asked (args_of of flags exptime maxcount None None))) (action_is_no_noreply of))),
-        λ action. (perhaps-is_clear _ _ (one-is_clear _ _) (noreply-is_other unreadable_word _ unreadable_is_no_noreply), λ unreadable. noreply-is_clear _),
-      ),
-    ),
-  ),
-)
-
-behind-is_clear : (of : Kind) (asked : Option CreateArgs → CollCommand) (create : Option Bool) → IsClear (attributes_behind of (λ args. ends (asked args)) create)
-behind-is_clear of asked None = noreply-is_clear _
-behind-is_clear of asked (Some create) = attributes-is_clear of (λ args. asked (Some args))
-
--- and so are those behind `create`, and their absence
-creation-is_clear : (of : Kind) (asked : Option CreateArgs → CollCommand) → IsClear (creation of (λ args. ends (asked args)))
-creation-is_clear of asked = (perhaps-is_clear _ _ (one-is_clear _ _) (noreply-is_other create_word _ create_is_no_noreply), λ create. behind-is_clear of asked create)
-
--- `[drop] [noreply]` is clear before the end of the line
-drop-is_clear : (asked : Option Bool → CollCommand) → IsClear (followed_by (perhaps (one drop_word)) (λ drop. ends (asked drop)))
-drop-is_clear asked = (perhaps-is_clear _ _ (one-is_clear _ _) (noreply-is_other drop_word _ drop_is_no_noreply), λ drop. noreply-is_clear _)
-
 -- a last word that may be left out is clear
 last-is_clear : {A B : Type 0} (kind : List ℕ → Option B) (result : Option B → A) → IsClear (followed_by (perhaps (one kind)) (λ b. gives (result b)))
 last-is_clear kind result = (perhaps-is_clear _ _ (one-is_clear _ _) (λ back a spelled. rw (spelled.0) refl), λ b. tt)
+
+action-refuses : (of : Kind) → RefusesBoth (action_word of)
+action-refuses of = record { noreply = action_is_no_noreply of; pipe = action_is_no_pipe of }
+
+unreadable-refuses : RefusesBoth unreadable_word
+unreadable-refuses = record { noreply = unreadable_is_no_noreply; pipe = unreadable_is_no_pipe }
+
+create-refuses : RefusesBoth create_word
+create-refuses = record { noreply = create_is_no_noreply; pipe = create_is_no_pipe }
+
+drop-refuses : RefusesBoth drop_word
+drop-refuses = record { noreply = drop_is_no_noreply; pipe = drop_is_no_pipe }
+
+-- attributes are clear before the end of the line
+module _ (last : List ℕ → Option Answer) (say : SayHowSent last) where
+
+  abbrev ending : CollCommand → Row CollHead
+  ending asked = followed_by (perhaps (one last)) (λ sent. gives (head asked sent))
+
+  attributes-is_clear : (of : Kind) (asked : CreateArgs → CollCommand) → IsClear (attributes of (λ args. ending (asked args)))
+  attributes-is_clear of asked = (
+    one-is_clear _ _,
+    λ flags. (
+      one-is_clear _ _,
+      λ exptime. (
+        one-is_clear _ _,
+        λ maxcount. (
+          perhaps-is_clear _ _ (one-is_clear _ _)
+              (unreadable-is_other (action_word of) (λ unreadable. ending (asked (args_of of flags exptime maxcount None unreadable))) (action_is_no_unreadable of)
+              (sent-is_other (action_word of) last (head (asked (args_of of flags exptime maxcount None None))) (action-refuses of) say)),
+          λ action. (perhaps-is_clear _ _ (one-is_clear _ _) (sent-is_other unreadable_word last _ unreadable-refuses say), λ unreadable. last-is_clear _ _),
+        ),
+      ),
+    ),
+  )
+
+behind-is_clear : (of : Kind) (asked : Option CreateArgs → CollCommand) (create : Option Bool) → IsClear (attributes_behind of (λ args. ends_or_pipes (asked args)) create)
+behind-is_clear of asked None = last-is_clear _ _
+behind-is_clear of asked (Some create) = attributes-is_clear sent_word sent_says of (λ args. asked (Some args))
+
+-- and so are those behind `create`, and their absence
+creation-is_clear : (of : Kind) (asked : Option CreateArgs → CollCommand) → IsClear (creation of (λ args. ends_or_pipes (asked args)))
+creation-is_clear of asked =
+    (perhaps-is_clear _ _ (one-is_clear _ _) (sent-is_other create_word sent_word _ create-refuses sent_says), λ create. behind-is_clear of asked create)
+
+-- `[drop] [noreply|pipe]` is clear before the end of the line
+drop-is_clear : (asked : Option Bool → CollCommand) → IsClear (followed_by (perhaps (one drop_word)) (λ drop. ends_or_pipes (asked drop)))
+drop-is_clear asked = (perhaps-is_clear _ _ (one-is_clear _ _) (sent-is_other drop_word sent_word _ drop-refuses sent_says), λ drop. last-is_clear _ _)
 
 -- the rows
 
 create_row-is_clear : (of : Kind) → IsClear (create_row of)
 unfolding create_row
-create_row-is_clear of = (one-is_clear _ _, λ key. attributes-is_clear of (command.Create of key))
+create_row-is_clear of = (one-is_clear _ _, λ key. attributes-is_clear noreply_word noreply_says of (command.Create of key))
 
 list_insert_row-is_clear : IsClear list_insert_row
 unfolding list_insert_row
@@ -138,7 +229,7 @@ set_delete_row-is_clear = (one-is_clear _ _, λ key. (one-is_clear _ _, λ len. 
 
 set_exist_row-is_clear : IsClear set_exist_row
 unfolding set_exist_row
-set_exist_row-is_clear = (one-is_clear _ _, λ key. (one-is_clear _ _, λ len. tt))
+set_exist_row-is_clear = (one-is_clear _ _, λ key. (one-is_clear _ _, λ len. last-is_clear _ _))
 
 set_get_row-is_clear : IsClear set_get_row
 unfolding set_get_row
@@ -150,7 +241,7 @@ map_insert_row-is_clear = (one-is_clear _ _, λ key. (one-is_clear _ _, λ field
 
 map_update_row-is_clear : IsClear map_update_row
 unfolding map_update_row
-map_update_row-is_clear = (one-is_clear _ _, λ key. (one-is_clear _ _, λ field. (one-is_clear _ _, λ len. noreply-is_clear _)))
+map_update_row-is_clear = (one-is_clear _ _, λ key. (one-is_clear _ _, λ field. (one-is_clear _ _, λ len. last-is_clear _ _)))
 
 map_upsert_row-is_clear : IsClear map_upsert_row
 unfolding map_upsert_row
@@ -197,7 +288,7 @@ no_key_value (followed_by part next) list head are spelled = no_key_value (next 
 no_key_value (gives result) list head are spelled = subst IsCollection (sym spelled.1) are
 
 behind-is_of_collections : (of : Kind) (asked : Option CreateArgs → CollCommand) (create : Option Bool)
-    → IsOfCollections (attributes_behind of (λ args. ends (asked args)) create)
+    → IsOfCollections (attributes_behind of (λ args. ends_or_pipes (asked args)) create)
 behind-is_of_collections of asked None = λ silent. tt
 behind-is_of_collections of asked (Some create) = λ flags exptime maxcount action unreadable silent. tt
 
@@ -210,7 +301,7 @@ coll_row_of-is_of_collections named.ListGet = λ key range taking. tt
 coll_row_of-is_of_collections named.SetCreate = λ key flags exptime maxcount action unreadable silent. tt
 coll_row_of-is_of_collections named.SetInsert = λ key len create. behind-is_of_collections kind.Set (command.SetInsert key len) create
 coll_row_of-is_of_collections named.SetDelete = λ key len drop silent. tt
-coll_row_of-is_of_collections named.SetExist = λ key len. tt
+coll_row_of-is_of_collections named.SetExist = λ key len sent. tt
 coll_row_of-is_of_collections named.SetGet = λ key count taking. tt
 coll_row_of-is_of_collections named.MapCreate = λ key flags exptime maxcount action unreadable silent. tt
 coll_row_of-is_of_collections named.MapInsert = λ key field len create. behind-is_of_collections kind.Map (command.MapInsert key field len) create

@@ -5,7 +5,7 @@ ghost use Rattle.arc_core.specs.ListGrammar.{create_row, list_insert_row, list_d
 ghost use Rattle.arc_core.specs.Rows.{row_read};
 
 use crate::parts::{
-    alone, answered, attributes, creation, next_index, next_len, next_range, skip_drop, taking,
+    alone, answered, answered_or_piped, attributes, creation, next_index, next_len, next_range, skip_drop, taking,
 };
 use arc_core::{CollCommand, CollHead, Kind, WordIter};
 
@@ -21,7 +21,7 @@ pub fn create(kind: Kind, mut words: WordIter<'_>) -> Option<CollHead<'_>>
 }
 
 /// Reads what follows `lop insert`:
-/// `<key> <index> <bytes> [create <flags> <exptime> <maxcount> [<action>] [unreadable]] [noreply]`.
+/// `<key> <index> <bytes> [create <flags> <exptime> <maxcount> [<action>] [unreadable]] [noreply|pipe]`.
 #[tactic(auto, unfolding(arc_core::specs::ListGrammar::list_insert_row), using(crate::proofs::PartLemmas::creation_is_read))]
 pub fn insert(mut words: WordIter<'_>) -> Option<CollHead<'_>>
     ensures { result ≡ row_read list_insert_row words.entry }
@@ -30,7 +30,7 @@ pub fn insert(mut words: WordIter<'_>) -> Option<CollHead<'_>>
     let index = next_index(&mut words)?;
     let len = next_len(&mut words)?;
     let (create, words) = creation(Kind::List, words)?;
-    answered(
+    answered_or_piped(
         CollCommand::ListInsert {
             key,
             index,
@@ -41,7 +41,7 @@ pub fn insert(mut words: WordIter<'_>) -> Option<CollHead<'_>>
     )
 }
 
-/// Reads what follows `lop delete`: `<key> <index or range> [drop] [noreply]`.
+/// Reads what follows `lop delete`: `<key> <index or range> [drop] [noreply|pipe]`.
 #[tactic(auto, unfolding(arc_core::specs::ListGrammar::list_delete_row))]
 pub fn delete(mut words: WordIter<'_>) -> Option<CollHead<'_>>
     ensures { result ≡ row_read list_delete_row words.entry }
@@ -49,7 +49,7 @@ pub fn delete(mut words: WordIter<'_>) -> Option<CollHead<'_>>
     let key = words.next_key()?;
     let range = next_range(&mut words)?;
     let (drop_empty, words) = skip_drop(words);
-    answered(
+    answered_or_piped(
         CollCommand::ListDelete {
             key,
             range,

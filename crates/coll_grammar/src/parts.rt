@@ -1,8 +1,8 @@
 //! What the rows of the commands on collections have in common: single words, attributes, and the end of a line. (The
 //! ARCUS protocol; the limits are this server's own.)
 ghost use Rattle.std.specs.Prelude.{◌≡◌, ◌≤◌, ◌+◌, ◌<◌, ◌^◌, None, Some, length, position, option_map};
-ghost use Rattle.arc_core.specs.CollectionGrammar.{field_word, index_word, index_range_word, index_range_at, range_between, is_dot, action_word, list_action_word, plain_action_word, default_action, unreadable_word, create_word, drop_word, take_word, taking_of, len_word, number_of_fields, head, ends};
-ghost use Rattle.arc_core.specs.Rows.{one, gives, part_read, or_left_out, row_read};
+ghost use Rattle.arc_core.specs.CollectionGrammar.{field_word, index_word, index_range_word, index_range_at, range_between, is_dot, action_word, list_action_word, plain_action_word, default_action, unreadable_word, create_word, drop_word, take_word, taking_of, len_word, number_of_fields, head, ends, ends_or_pipes, pipe_word, sent_word};
+ghost use Rattle.arc_core.specs.Rows.{one, perhaps, followed_by, gives, part_read, or_left_out, row_read};
 ghost use Rattle.coll_grammar.specs.Parts.{fixed, said, taking_read, attributes_read, creation_read};
 
 use arc_core::{
@@ -297,6 +297,63 @@ pub fn answered<'a>(command: CollCommand<'a>, mut words: WordIter<'a>) -> Option
 {
     let answer = match words.next() {
         Some(word) => no_reply(word)?,
+        None => Answer::Plain,
+    };
+    if words.next().is_some() {
+        return None;
+    }
+    Some(CollHead::Collection { command, answer })
+}
+
+// Reads a word as `pipe`.
+#[tactic(auto, unfolding(arc_core::specs::CollectionGrammar::pipe_word))]
+fn pipe(word: &[u8]) -> Option<Answer>
+    ensures { result ≡ pipe_word word.now }
+{
+    if word == b"pipe".as_slice() {
+        Some(Answer::Pipe)
+    } else {
+        None
+    }
+}
+
+// Reads a word as `noreply` or `pipe`.
+#[tactic(auto, unfolding(arc_core::specs::CollectionGrammar::sent_word))]
+fn no_reply_or_pipe(word: &[u8]) -> Option<Answer>
+    ensures { result ≡ sent_word word.now }
+{
+    if word == b"noreply".as_slice() {
+        return Some(Answer::NoReply);
+    }
+    pipe(word)
+}
+
+/// The head of a command whose line goes on with `[noreply|pipe]`, and ends.
+pub fn answered_or_piped<'a>(
+    command: CollCommand<'a>,
+    mut words: WordIter<'a>,
+) -> Option<CollHead<'a>>
+    ensures { result ≡ row_read (ends_or_pipes command.entry) words.entry }
+{
+    let answer = match words.next() {
+        Some(word) => no_reply_or_pipe(word)?,
+        None => Answer::Plain,
+    };
+    if words.next().is_some() {
+        return None;
+    }
+    Some(CollHead::Collection { command, answer })
+}
+
+/// The head of a command whose line goes on with `[pipe]`, and ends.
+pub fn alone_or_piped<'a>(
+    command: CollCommand<'a>,
+    mut words: WordIter<'a>,
+) -> Option<CollHead<'a>>
+    ensures { result ≡ row_read (followed_by (perhaps (one pipe_word)) (λ sent. gives (head command.entry sent))) words.entry }
+{
+    let answer = match words.next() {
+        Some(word) => pipe(word)?,
         None => Answer::Plain,
     };
     if words.next().is_some() {

@@ -4,7 +4,7 @@ mod joins;
 
 use crate::{AllHeads, CollCommand, CollHead, LineFault, read_head};
 use Action::{Error, HeadTrim, TailTrim};
-use Answer::{NoReply, Plain};
+use Answer::{NoReply, Pipe, Plain};
 use LineFault::{BadFormat, Unknown};
 use Made::{Readable, Unreadable};
 use Places::{At, Span};
@@ -77,7 +77,7 @@ fn range_of(places: Places) -> IndexRange {
 }
 
 // Commands on lists.
-const LISTS: [(&[u8], Spelled, Answer); 24] = [
+const LISTS: [(&[u8], Spelled, Answer); 26] = [
     (
         b"lop create l 0 0 0",
         Create(Kind::List, b"l", Readable(0, 0, 0, TailTrim)),
@@ -113,6 +113,16 @@ const LISTS: [(&[u8], Spelled, Answer); 24] = [
         NoReply,
     ),
     (b"lop insert l 0 3", ListInsert(b"l", 0, 3, None), Plain),
+    (
+        b"lop insert pipe 0 3 create 0 0 0 pipe",
+        ListInsert(b"pipe", 0, 3, Some(Readable(0, 0, 0, TailTrim))),
+        Pipe,
+    ),
+    (
+        b"lop delete l 0 drop pipe ",
+        ListDelete(b"l", At(0), true),
+        Pipe,
+    ),
     (
         b" lop  insert l -1  0 noreply ",
         ListInsert(b"l", -1, 0, None),
@@ -187,7 +197,7 @@ const LISTS: [(&[u8], Spelled, Answer); 24] = [
 ];
 
 // Commands on sets.
-const SETS: [(&[u8], Spelled, Answer); 17] = [
+const SETS: [(&[u8], Spelled, Answer); 20] = [
     (
         b"sop create s 0 0 0",
         Create(Kind::Set, b"s", Readable(0, 0, 0, Error)),
@@ -239,12 +249,15 @@ const SETS: [(&[u8], Spelled, Answer); 17] = [
         SetGet(b"s", 4_294_967_295, Delete),
         Plain,
     ),
+    (b"sop insert s 3 pipe", SetInsert(b"s", 3, None), Pipe),
+    (b"sop delete s 3 pipe", SetDelete(b"s", 3, false), Pipe),
+    (b"sop exist s 3 pipe", SetExist(b"s", 3), Pipe),
     (b"sop get s 1 drop", SetGet(b"s", 1, Drop), Plain),
     (b"sop get delete 00", SetGet(b"delete", 0, Keep), Plain),
 ];
 
 // Commands on maps.
-const MAPS: [(&[u8], Spelled, Answer); 19] = [
+const MAPS: [(&[u8], Spelled, Answer); 23] = [
     (
         b"mop create m 0 0 0",
         Create(Kind::Map, b"m", Readable(0, 0, 0, Error)),
@@ -287,6 +300,10 @@ const MAPS: [(&[u8], Spelled, Answer); 19] = [
         MapUpsert(b"m", b"0", 0, Some(Readable(1, 2, 3, Error))),
         NoReply,
     ),
+    (b"mop insert m f 3 pipe", MapInsert(b"m", b"f", 3, None), Pipe),
+    (b"mop update m f 3 pipe", MapUpdate(b"m", b"f", 3), Pipe),
+    (b"mop upsert m f 3 pipe", MapUpsert(b"m", b"f", 3, None), Pipe),
+    (b"mop delete m 0 0 pipe", MapDelete(b"m", 0, 0, false), Pipe),
     (b"mop delete m 3 1", MapDelete(b"m", 3, 1, false), Plain),
     (b"mop delete m 0 0", MapDelete(b"m", 0, 0, false), Plain),
     (
@@ -369,7 +386,7 @@ const BAD_LISTS: [&[u8]; 58] = [
     b"lop insert l 0 3 noreply create 0 0 0",
     b"lop insert l 0 3 error",
     b"lop insert l 0 3 unreadable",
-    b"lop insert l 0 3 pipe",
+    b"lop insert l 0 3 noreply pipe",
     b"lop insert l 0 3 7",
     b"lop delete l",
     b"lop delete l 0 delete",
@@ -411,7 +428,7 @@ const BAD_SETS: [&[u8]; 22] = [
     b"sop delete s 3 noreply drop",
     b"sop exist s",
     b"sop exist s 3 noreply",
-    b"sop exist s 3 pipe",
+    b"sop exist s 3 pipe pipe",
     b"sop exist s 2147483648",
     b"sop get s",
     b"sop get s -1",
@@ -682,7 +699,7 @@ const NEEDS: [(&[u8], Option<(u32, u32)>); 20] = [
     (b"sop get s 5", None),
     (b"set a 0 0 5", Some((5, 1_048_576))),
     (b"get a", None),
-    (b"lop insert l 0 5 pipe", None),
+    (b"lop insert l 0 5 pipe", Some((5, 32_768))),
     (b"mop get m 5 0", None),
     (b"lop", None),
 ];
@@ -703,7 +720,7 @@ fn tells_needs(rt: HostRuntime) -> Result<(), Fail> {
 }
 
 #[test]
-fn tells_silence_and_the_end(rt: HostRuntime) -> Result<(), Fail> {
+fn tells_marks_silence_and_the_end(rt: HostRuntime) -> Result<(), Fail> {
     let quit = read_head(b"quit").ok().ok_or("no head")?;
     assert!(rt; quit.is_quit() && !quit.is_silent());
     let insert = read_head(b"lop insert l 0 3 noreply")
@@ -711,6 +728,9 @@ fn tells_silence_and_the_end(rt: HostRuntime) -> Result<(), Fail> {
         .ok_or("no head")?;
     assert!(rt; !insert.is_quit() && insert.is_silent());
     let exist = read_head(b"sop exist noreply 1").ok().ok_or("no head")?;
-    assert!(rt; !exist.is_silent());
+    assert!(rt; !exist.is_silent() && !exist.is_marked());
+    let piped = read_head(b"sop exist s 1 pipe").ok().ok_or("no head")?;
+    assert!(rt; !piped.is_silent() && piped.is_marked());
+    assert!(rt; !quit.is_marked() && !insert.is_marked());
     Ok(())
 }

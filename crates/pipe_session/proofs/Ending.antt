@@ -9,7 +9,7 @@ use Rattle.arc_core.specs.Framing.{BeginsWith, IsRest, IsSpan}
 use Rattle.arc_core.specs.CollectionLines.{coll_line_needs}
 use Rattle.arc_core.specs.History.{Entry}
 use Rattle.arc_core.specs.Outside.{Rose, Incoming, Outgoing, outgoing, first_then, then_sent, sent_more, CameToEnd, FailedToPull}
-use Rattle.arc_core.specs.SessionText.{IsQuitUnit}
+use Rattle.pipe_session.specs.SessionText.{IsQuitUnit}
 use Rattle.frame_reader.specs.Progress.{Progress, StandsFor, ready_unit}
 use Rattle.pipe_session.specs.declared.phase.Phase.{Phase}
 use Rattle.pipe_session.specs.declared.phase.Phase.TheVariants as phase

@@ -5,7 +5,7 @@ use Rattle.arc_core.specs.Framing.{Whole, BeginsWith, IsSpan}
 use Rattle.arc_core.specs.CollectionLines.{coll_line_needs}
 use Rattle.arc_core.specs.History.{Entry}
 use Rattle.arc_core.specs.Outside.{Incoming, Outgoing}
-use Rattle.arc_core.specs.SessionText.{TellsUnit, IsQuitUnit}
+use Rattle.pipe_session.specs.SessionText.{TellsUnit, IsQuitUnit}
 use Rattle.frame_reader.specs.Progress.{StandsFor}
 use Rattle.pipe_session.specs.declared.phase.Phase.{Phase}
 use Rattle.pipe_session.specs.declared.phase.Phase.TheVariants as phase

@@ -4,7 +4,7 @@ use Rattle.std.proofs.lemmas.List.{append-nil}
 use Rattle.arc_core.specs.declared.outside.Need.{Need}
 use Rattle.arc_core.specs.History.{Entry}
 use Rattle.arc_core.specs.Framing.{Whole, BeginsWith, IsSpan}
-use Rattle.arc_core.specs.SessionText.{TellsUnit, Tells}
+use Rattle.pipe_session.specs.SessionText.{TellsUnit, Tells}
 use Rattle.pipe_session.specs.Desks.{Serves, TicksThrough}
 use Rattle.pipe_session.specs.Units.{IsFinal, NoneFinal, OnlyLastFinal}
 

@@ -25,7 +25,7 @@ use Rattle.arc_core.specs.History.{Entry}
 use Rattle.arc_core.specs.ReplyText.{reply_text, word_line}
 use Rattle.arc_core.specs.Framing.{Whole}
 use Rattle.arc_core.specs.Framing as whole
-use Rattle.arc_core.specs.SessionText.{TellsUnit, AnswersItself, IsQuitUnit, sent_for, sent_of}
+use Rattle.pipe_session.specs.SessionText.{TellsUnit, AnswersItself, IsQuitUnit, sent_for, sent_of}
 use Rattle.pipe_session.specs.declared.phase.Phase.{Phase}
 use Rattle.pipe_session.specs.declared.phase.Phase.TheVariants as phase
 use Rattle.pipe_session.specs.Desks.{Answered}

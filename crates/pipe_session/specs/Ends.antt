@@ -3,7 +3,7 @@ use Rattle.std.specs.Prelude.{◌≡◌, ℕ, ◌^◌, ◌<◌, ◌≤◌, Bool,
 use Rattle.arc_core.specs.Outside.{Rose, then_sent, sent_more}
 use Rattle.arc_core.specs.Framing.{Whole, IsRest}
 use Rattle.arc_core.specs.CollectionLines.{coll_line_needs}
-use Rattle.arc_core.specs.SessionText.{IsQuitUnit}
+use Rattle.pipe_session.specs.SessionText.{IsQuitUnit}
 use Rattle.arc_core.specs.declared.ends.End.{End}
 use Rattle.arc_core.specs.declared.ends.End.TheVariants as end
 use Rattle.pipe_session.specs.Outside.{Outside}

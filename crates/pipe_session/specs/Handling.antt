@@ -9,7 +9,7 @@ use Rattle.arc_core.specs.CollectionLines.{SpellsRequest, IsCollUnknown, IsCollB
 use Rattle.arc_core.specs.Grammar.{is_silent}
 use Rattle.arc_core.specs.History.{Entry}
 use Rattle.arc_core.specs.ReplyText.{reply_text, word_line}
-use Rattle.arc_core.specs.SessionText.{TellsUnit, IsQuitUnit, sent_for}
+use Rattle.pipe_session.specs.SessionText.{TellsUnit, IsQuitUnit, sent_for}
 use Rattle.frame_reader.specs.Progress.{Progress, StandsFor}
 use Rattle.pipe_session.specs.declared.phase.Phase.{Phase}
 use Rattle.pipe_session.specs.declared.phase.Phase.TheVariants as phase

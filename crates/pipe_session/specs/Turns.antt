@@ -4,7 +4,7 @@ use Rattle.arc_core.specs.Outside.{Rose, first_then, sent_more}
 use Rattle.arc_core.specs.Framing.{Whole, BeginsWith}
 use Rattle.arc_core.specs.CollectionLines.{coll_line_needs}
 use Rattle.arc_core.specs.History.{Entry}
-use Rattle.arc_core.specs.SessionText.{Tells, IsQuitUnit}
+use Rattle.pipe_session.specs.SessionText.{Tells, IsQuitUnit}
 use Rattle.frame_reader.specs.Progress.{Progress, StandsFor}
 use Rattle.arc_core.specs.declared.ends.End.{End}
 use Rattle.pipe_session.specs.declared.turn.Turn.{Turn}

@@ -3,7 +3,7 @@ use Rattle.std.specs.Prelude.{◌≡◌, ◌⊎◌, ℕ, List, [], ◌∷◌, �
 use Rattle.std.specs.List.{AllByRecursion}
 use Rattle.arc_core.specs.Framing.{Whole, line_too_long}
 use Rattle.arc_core.specs.CollectionLines.{coll_line_needs}
-use Rattle.arc_core.specs.SessionText.{IsQuitUnit}
+use Rattle.pipe_session.specs.SessionText.{IsQuitUnit}
 use Rattle.frame_reader.specs.Progress.{Progress, StandsFor, ready_unit}
 
 -- The unit is a line that is too long.

@@ -4,7 +4,7 @@ ghost use Rattle.arc_core.specs.Framing.{IsSpan};
 ghost use Rattle.arc_core.specs.CollectionLines.{IsCollHead, coll_is_quit, coll_line_is_silent, coll_line_needs, coll_need_of};
 ghost use Rattle.arc_core.specs.Grammar.{Meets};
 ghost use Rattle.arc_core.specs.ReplyText.{word_line};
-ghost use Rattle.arc_core.specs.SessionText.{sent_for};
+ghost use Rattle.pipe_session.specs.SessionText.{sent_for};
 ghost use Rattle.frame_reader.specs.Units.{whole_of};
 ghost use Rattle.pipe_session.specs.declared.phase.Phase.TheVariants as phase;
 ghost use Rattle.pipe_session.specs.Handling.{stand, IsTold, TellsHead, HasItsBlock, HandlesLine, HandlesUnit, TakesFront, TakesNext};
