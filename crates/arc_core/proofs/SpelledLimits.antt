@@ -16,7 +16,7 @@ use Rattle.arc_core.specs.declared.collections.Kind.{Kind}
 use Rattle.arc_core.specs.declared.collections.Kind.TheVariants as kind
 use Rattle.arc_core.specs.declared.commands.Command.{Command}
 use Rattle.arc_core.specs.declared.commands.Command.TheVariants as key_value
-use Rattle.arc_core.specs.CollectionGrammar.{action_word, default_action, field_word, args_of, attributes_behind, ends}
+use Rattle.arc_core.specs.CollectionGrammar.{action_word, default_action, field_word, args_of, attributes_behind, ends_or_pipes}
 use Rattle.arc_core.specs.CollectionLines.{CanBeSpelled, IsCollHead, coll_act_of, coll_command_needs, coll_need_of, coll_request_of, coll_row_of}
 use Rattle.arc_core.specs.CollectionRequests.{empty_of}
 use Rattle.arc_core.specs.Grammar.{IsBlockFor, Meets, act_of}
@@ -131,7 +131,7 @@ HeadKeeps (coll_head.Collection asked answer) = LineKeeps asked
 
 -- what follows the word `create`, or its absence
 makes_well : (of : Kind) (asked : Option CreateArgs → CollCommand) → ((create : Option CreateArgs) → MayMake of create → LineKeeps (asked create))
-    → (create : Option Bool) → Gives HeadKeeps (attributes_behind of (λ args. ends (asked args)) create)
+    → (create : Option Bool) → Gives HeadKeeps (attributes_behind of (λ args. ends_or_pipes (asked args)) create)
 makes_well of asked keeps None = λ silent holds. keeps None (λ args e. absurd (cc))
 makes_well of asked keeps (Some create) =
     λ flags hf exptime he maxcount hm said ha unreadable hu silent hs.
@@ -147,7 +147,7 @@ rows_keep named.ListGet = λ key hk range hr taking ht. tt
 rows_keep named.SetCreate = λ key hk flags hf exptime he maxcount hm said ha unreadable hu silent hs. action_is kind.Set said ha
 rows_keep named.SetInsert = λ key hk len hl create hc. makes_well kind.Set (command.SetInsert key len) (λ create may. may) create
 rows_keep named.SetDelete = λ key hk len hl drop hd silent hs. tt
-rows_keep named.SetExist = λ key hk len hl. tt
+rows_keep named.SetExist = λ key hk len hl sent hs. tt
 rows_keep named.SetGet = λ key hk number hn taking ht. tt
 rows_keep named.MapCreate = λ key hk flags hf exptime he maxcount hm said ha unreadable hu silent hs. action_is kind.Map said ha
 rows_keep named.MapInsert = λ key hk field hf len hl create hc. makes_well kind.Map (command.MapInsert key field len) (λ create may. (field_is field hf, may)) create

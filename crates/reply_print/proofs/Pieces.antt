@@ -119,3 +119,11 @@ module _ {X : Type 0} (f : X → List ℕ) where
       let upto = ap length (sym (texts_more xs i x in' is)) ∙ length-append (flat_map f (take i xs)) (f x) in
       let held = ap length stands ∙ length-append start (flat_map f (take i xs)) in
       omega (arith, split, upto, held, none)
+
+  -- where all texts together have room, the next one has behind those before it
+  pub room_for_text : (xs : List X) (i : ℕ) (x : X) → i < length xs → x ≡ get_or xs i x
+      → length (flat_map f (take i xs)) + length (f x) ≤ length (flat_map f xs)
+  room_for_text xs i x in' is =
+      let split = ap length (ap (flat_map f) (sym (take-append-drop (i + 1) xs)) ∙ flat_map-append f (take (i + 1) xs) (drop (i + 1) xs)) ∙ length-append (flat_map f (take (i + 1) xs)) (flat_map f (drop (i + 1) xs)) in
+      let upto = ap length (sym (texts_more xs i x in' is)) ∙ length-append (flat_map f (take i xs)) (f x) in
+      omega (arith, split, upto)

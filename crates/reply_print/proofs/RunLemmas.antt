@@ -14,7 +14,7 @@ use Rattle.arc_core.specs.declared.replies.Word.{Word}
 use Rattle.arc_core.specs.declared.replies.Word.TheVariants as word
 use Rattle.arc_core.specs.ReplyText.{word_line, line_end}
 use Rattle.reply_print.specs.PipeText.{status_text, fault_text, pipe_text, fails_run}
-use Rattle.reply_print.proofs.Pieces.{next_text, no_room_for_all}
+use Rattle.reply_print.proofs.Pieces.{next_text, texts_more, room_for_text}
 
 either_long : (b : Bool) (xs ys : List ℕ) (n : ℕ) → length xs ≤ n → length ys ≤ n → length (cond b xs ys) ≤ n
 either_long true xs ys n p q = p
@@ -33,15 +33,15 @@ decimal_long : (n : ℕ) → length (decimal n) ≤ 64
 unfolding digits
 decimal_long n = digits_long 64 n []
 
-word_long : (w : Word) → length (word_line w) ≤ 128
+word_long : (w : Word) → length (word_line w) ≤ 66
 word_long word.Stored = omega arith
 word_long w = omega arith
 
-status_long : (s : PipeStatus) → length (status_text s) ≤ 128
+status_long : (s : PipeStatus) → length (status_text s) ≤ 66
 status_long (status.Word w) = word_long w
 status_long (status.Number n) = omega (arith, decimal_long n, length-append (decimal n) line_end)
 
-statuses_long : (ss : List PipeStatus) → length (flat_map status_text ss) ≤ 128 * length ss
+statuses_long : (ss : List PipeStatus) → length (flat_map status_text ss) ≤ 66 * length ss
 statuses_long [] = omega arith
 statuses_long (s ∷ ss) = omega (arith, status_long s, statuses_long ss, length-append (status_text s) (flat_map status_text ss))
 
@@ -62,11 +62,23 @@ pub next_status : (ss : List PipeStatus) (i : ℕ) (d : PipeStatus) (rest : List
     → flat_map status_text (drop i ss) ++ rest ≡ status_text (get_or ss i d) ++ (flat_map status_text (drop (i + 1) ss) ++ rest)
 next_status ss i d rest in' = next_text status_text ss i (get_or ss i d) rest in' (get_or_default ss i d (get_or ss i d) in')
 
--- where a status has no room behind those before it, all of them together have none
-pub no_room_for_statuses : (ss : List PipeStatus) (i : ℕ) (d : PipeStatus) (start before : List ℕ) → i < length ss → before ≡ start ++ flat_map status_text (take i ss)
-    → 16384 < length before + length (status_text (get_or ss i d)) + 80 → 16384 < length start + length (flat_map status_text ss) + 80
-no_room_for_statuses ss i d start before in' stands none =
-    no_room_for_all status_text ss i (get_or ss i d) start before in' (get_or_default ss i d (get_or ss i d) in') stands none
+-- the answer for 500 commands has room in the memory of an outbox
+pub answer_fits : (ss : List PipeStatus) (f : PipeFault) → length ss ≤ 500 → length (pipe_text ss f) ≤ 34816
+answer_fits ss f few =
+    let number = decimal_long (length ss) in
+    let lines = statuses_long ss in
+    let end = fault_long f in
+    simp length-append (omega arith)
+
+-- the lines of the statuses before one, with its own
+pub status_more : (ss : List PipeStatus) (i : ℕ) (d : PipeStatus) → i < length ss
+    → flat_map status_text (take i ss) ++ status_text (get_or ss i d) ≡ flat_map status_text (take (i + 1) ss)
+status_more ss i d in' = texts_more status_text ss i (get_or ss i d) in' (get_or_default ss i d (get_or ss i d) in')
+
+-- where all statuses have room, the next one has
+pub room_for_status : (ss : List PipeStatus) (i : ℕ) (d : PipeStatus) → i < length ss
+    → length (flat_map status_text (take i ss)) + length (status_text (get_or ss i d)) ≤ length (flat_map status_text ss)
+room_for_status ss i d in' = room_for_text status_text ss i (get_or ss i d) in' (get_or_default ss i d (get_or ss i d) in')
 
 -- a text that begins with a digit
 BeginsWithDigit : List ℕ → Type 0

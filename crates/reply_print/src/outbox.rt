@@ -1,9 +1,9 @@
 //! Texts that wait, so that those of many units go out in one push.
-ghost use Rattle.std.specs.Prelude.{◌≡◌, ◌+◌, ◌<◌, ◌≤◌, [], ◌++◌, length, drop, nat_le, if◌then◌else◌, MatchBool, codes, IfOk, vec_len, vec_capacity};
+ghost use Rattle.std.specs.Prelude.{◌≡◌, ◌+◌, ◌-◌, ◌<◌, ◌≤◌, [], ◌++◌, length, drop, nat_le, if◌then◌else◌, MatchBool, codes, IfOk, vec_len, vec_capacity};
 ghost use Rattle.std.specs.List.{flat_map};
 ghost use Rattle.arc_core.specs.ReplyText.{reply_text, row_text, elements_text, line_end};
 ghost use Rattle.reply_print.specs.Parts.{element_pieces};
-ghost use Rattle.reply_print.specs.PipeText.{pipe_text};
+ghost use Rattle.reply_print.specs.PipeText.{pipe_text, status_text};
 ghost use Rattle.reply_print.specs.Waiting.{IsPut, IsPutInPart};
 
 use crate::elements::add_elements;
@@ -11,18 +11,21 @@ use crate::lines::{
     END, LINE_END, ROW_START, elements_line_of, fault_line, line_of, number_line, run_line_of,
     tail_line, tail_of,
 };
-use crate::pipes::add_statuses;
 use arc_core::{NoMemory, PipeFault, PipeStatus, Reply, Row, Tail, ValueRow};
 use std::alloc::Global;
 use std::marker::Model;
 
-/// The most bytes that wait.
+/// The most bytes that wait, but for the answer to a run of piped commands behind them.
 pub const WAITING_BYTES: usize = 16_384;
+
+/// The memory of an outbox, in bytes: room for the answer to a run of 500 commands behind all that waits.
+const OUTBOX_BYTES: usize = 51_200;
 
 /// The most bytes of a found item's text but its key and its value: `VALUE `, a line end, and a line's tail.
 const ROW_FRAME_BYTES: usize = 80;
 
-/// Bytes that wait to be sent, 16,384 at most. Contracts see the list of them.
+/// Bytes that wait to be sent: 16,384 at most, and the answer to a run of piped commands behind them. Contracts see the
+/// list of them.
 #[derive(Drop)]
 pub struct Outbox {
     // Never more than its memory, which is taken once.
@@ -36,23 +39,23 @@ impl Model for Outbox {
 
     ghost view = { λ outbox. outbox.bytes.items };
 
-    ghost invariant = { λ outbox. (vec_len outbox.bytes ≤ 16384) × (16384 ≤ vec_capacity outbox.bytes) };
+    ghost invariant = { λ outbox. (vec_len outbox.bytes ≤ 51200) × (51200 ≤ vec_capacity outbox.bytes) };
 }
 
 impl Outbox {
-    /// An outbox in which nothing waits. It takes memory for 16,384 bytes, and none later. `NoMemory` comes for want of
-    /// memory alone.
+    /// An outbox in which nothing waits. It takes memory for 51,200 bytes, and none later: it is room, of which nothing is
+    /// touched before texts wait there. `NoMemory` comes for want of memory alone.
     pub fn new(alloc: Global) -> Result<Outbox, NoMemory>
         ensures { IfOk result (λ outbox. outbox ≡ []) }
     {
-        let bytes = Vec::with_capacity(alloc, WAITING_BYTES)?;
+        let bytes = Vec::with_capacity(alloc, OUTBOX_BYTES)?;
         Ok(Outbox { bytes })
     }
 
     /// The bytes that wait.
     pub fn bytes(&self) -> &[u8]
         ensures bytes { result.now ≡ self.now }
-        ensures fits { length result.now ≤ 16384 }
+        ensures fits { length result.now ≤ 51200 }
     {
         &self.bytes
     }
@@ -62,7 +65,8 @@ impl Outbox {
         ensures room { result ≡ nat_le (length self.old + length piece.now) 16384 }
         ensures waits { self.new ≡ (if result then self.old ++ piece.now else self.old) }
     {
-        if piece.len() > WAITING_BYTES - self.bytes.len() {
+        let held = self.bytes.len();
+        if held > WAITING_BYTES || piece.len() > WAITING_BYTES - held {
             return false;
         }
         append(&mut self.bytes, piece);
@@ -83,20 +87,16 @@ impl Outbox {
         }
     }
 
-    /// Puts the whole answer to a run of piped commands behind all that waits, as `put` does with a reply, and tells
-    /// whether it has room. Else nothing has changed. Takes no memory.
-    pub fn put_pipe(&mut self, statuses: &[PipeStatus], fault: PipeFault) -> bool
-        ensures { IsPut self.old self.new (pipe_text statuses.now fault) result }
+    /// Puts the whole answer to a run of piped commands behind all that waits. There are at most 500 statuses, and it has
+    /// room wherever 16,384 bytes wait at most. Takes no memory.
+    pub fn put_pipe(&mut self, statuses: &[PipeStatus], fault: PipeFault)
+        requires few { length statuses.now ≤ 500 }
+        requires room { length self.old ≤ 16384 }
+        ensures { self.new ≡ self.old ++ pipe_text statuses.now fault }
     {
-        let held = self.bytes.len();
-        if self.add(run_line_of(statuses.len()).bytes())
-            && add_statuses(statuses, self)
-            && self.add(fault_line(fault))
-        {
-            return true;
-        }
-        self.bytes.truncate(held);
-        false
+        append(&mut self.bytes, run_line_of(statuses.len()).bytes());
+        append_statuses(&mut self.bytes, statuses);
+        append(&mut self.bytes, fault_line(fault));
     }
 
     /// So many bytes at the front were sent. (All, but where a link takes a part.)
@@ -111,6 +111,13 @@ impl Outbox {
             self.bytes.copy_within(count.., 0);
             self.bytes.truncate(left);
         }
+    }
+
+    // How many bytes more may wait.
+    fn room(&self) -> usize
+        ensures { result ≡ 16384 - length self.now }
+    {
+        WAITING_BYTES.saturating_sub(self.bytes.len())
     }
 
     // Puts found items and the end of their answer last, all of it or nothing.
@@ -143,7 +150,7 @@ impl Outbox {
     {
         let key = row.key.bytes();
         let value = row.value.bytes();
-        if WAITING_BYTES - self.bytes.len() < key.len() + value.len() + ROW_FRAME_BYTES {
+        if self.room() < key.len() + value.len() + ROW_FRAME_BYTES {
             return false;
         }
         append(&mut self.bytes, ROW_START);
@@ -177,9 +184,7 @@ impl Outbox {
         ensures room { result ≡ nat_le (length self.old + length (element_pieces field.now front.now value.now)) 16384 }
         ensures waits { self.new ≡ (if result then self.old ++ element_pieces field.now front.now value.now else self.old) }
     {
-        if WAITING_BYTES - self.bytes.len()
-            < field.len() + front.len() + value.len() + LINE_END.len()
-        {
+        if self.room() < field.len() + front.len() + value.len() + LINE_END.len() {
             return false;
         }
         append_field(&mut self.bytes, field);
@@ -199,6 +204,29 @@ fn append_field(kept: &mut Vec<u8>, field: &[u8])
 {
     if !field.is_empty() {
         append(kept, field);
+    }
+}
+
+// Puts the lines of statuses last, for which there is memory.
+fn append_statuses(kept: &mut Vec<u8>, statuses: &[PipeStatus])
+    requires { vec_len kept.old + length (flat_map status_text statuses.now) ≤ vec_capacity kept.old }
+    ensures items { kept.new.items ≡ kept.old.items ++ flat_map status_text statuses.now }
+    ensures capacity { vec_capacity kept.old ≤ vec_capacity kept.new }
+{
+    for status in statuses {
+        append_status(kept, *status);
+    }
+}
+
+// Puts the line of a status last, for which there is memory.
+fn append_status(kept: &mut Vec<u8>, status: PipeStatus)
+    requires { vec_len kept.old + length (status_text status) ≤ vec_capacity kept.old }
+    ensures items { kept.new.items ≡ kept.old.items ++ status_text status }
+    ensures capacity { vec_capacity kept.old ≤ vec_capacity kept.new }
+{
+    match status {
+        PipeStatus::Word(word) => append(kept, line_of(word)),
+        PipeStatus::Number(number) => append(kept, number_line(number).bytes()),
     }
 }
 

@@ -46,7 +46,7 @@ const ANSWERS: [(&[PipeStatus], PipeFault, &[u8]); 6] = [
 // The place in `ANSWERS` of the one over which links stop.
 const STOPPED: usize = 4;
 
-// Sends an answer, which has room in an outbox, from the offset on.
+// Sends an answer, which waits in an outbox too, from the offset on.
 fn sent(
     rt: &impl Abort,
     alloc: Global,
@@ -56,8 +56,9 @@ fn sent(
     link: &mut TestLink,
 ) -> Result<Wrote, NoMemory> {
     let mut outbox = Outbox::new(alloc)?;
-    let waits = outbox.put_pipe(statuses, fault);
-    assert!(rt; waits && from <= outbox.bytes().len() && statuses.len() <= 500);
+    assert!(rt; outbox.bytes().is_empty() && statuses.len() <= 500);
+    outbox.put_pipe(statuses, fault);
+    assert!(rt; from <= outbox.bytes().len());
     Ok(write_pipe(statuses, fault, from as u64, link))
 }
 
@@ -78,18 +79,20 @@ fn answers_have_these_texts(rt: HostRuntime) -> Result<(), Fail> {
 }
 
 #[test]
-fn answers_wait_where_they_have_room(rt: HostRuntime) -> Result<(), Fail> {
+fn answers_wait_behind_all_that_waits(rt: HostRuntime) -> Result<(), Fail> {
     let alloc = rt.alloc();
     for (statuses, fault, text) in ANSWERS {
-        assert!(rt; text.len() < WAITING_BYTES);
-        let room = WAITING_BYTES - text.len();
-        for (used, fits) in [(0, true), (room, true), (room + 1, false)] {
+        for used in [0, 1, WAITING_BYTES - 1, WAITING_BYTES] {
             let filler = vec![in alloc; b'x'; used]?;
             let mut outbox = Outbox::new(alloc)?;
-            assert!(rt; outbox.add(&filler) && outbox.put_pipe(statuses, fault) == fits);
-            let end = if fits { text } else { b"" };
-            assert!(rt; outbox.bytes().len() == used.saturating_add(end.len()));
-            assert!(rt; outbox.bytes().starts_with(&filler) && outbox.bytes().ends_with(end));
+            assert!(rt; outbox.add(&filler));
+            assert!(rt; outbox.bytes() == filler.as_slice() && used <= WAITING_BYTES);
+            assert!(rt; statuses.len() <= 500);
+            outbox.put_pipe(statuses, fault);
+            assert!(rt; outbox.bytes().len() == used.saturating_add(text.len()));
+            assert!(rt; outbox.bytes().starts_with(&filler) && outbox.bytes().ends_with(text));
+            // Then nothing more has room where too much waits.
+            assert!(rt; outbox.add(b"x") == (used == 0 || used == 1));
         }
     }
     Ok(())
@@ -167,12 +170,14 @@ fn answers_500_commands(rt: HostRuntime) -> Result<(), Fail> {
 }
 
 #[test]
-fn long_answers_have_no_room(rt: HostRuntime) -> Result<(), Fail> {
+fn long_answers_have_room(rt: HostRuntime) -> Result<(), Fail> {
     let alloc = rt.alloc();
     let statuses = [PipeStatus::Word(Word::NoMemory); 500];
     let mut outbox = Outbox::new(alloc)?;
-    assert!(rt; outbox.add(b"x") && !outbox.put_pipe(&statuses, PipeFault::Nothing));
-    assert!(rt; outbox.bytes() == b"x".as_slice());
+    let filler = vec![in alloc; b'x'; WAITING_BYTES]?;
+    assert!(rt; outbox.add(&filler));
+    assert!(rt; outbox.bytes() == filler.as_slice());
+    outbox.put_pipe(&statuses, PipeFault::Nothing);
     let mut link = TestLink::new(alloc, usize::MAX, Stop::Never);
     assert!(rt; write_pipe(&statuses, PipeFault::Nothing, 0, &mut link) == Wrote::Done);
     let text = long_answer(
@@ -180,7 +185,7 @@ fn long_answers_have_no_room(rt: HostRuntime) -> Result<(), Fail> {
         b"SERVER_ERROR no memory from the system\r\n",
         b"END\r\n",
     )?;
-    assert!(rt; link.sent == text);
+    assert!(rt; link.sent == text && outbox.bytes().ends_with(&text));
     Ok(())
 }
 

@@ -4,13 +4,11 @@ ghost use Rattle.std.specs.List.{flat_map};
 ghost use Rattle.arc_core.specs.Outside.{incoming, outgoing, linked};
 ghost use Rattle.reply_print.specs.PipeText.{status_text, pipe_text};
 ghost use Rattle.reply_print.specs.Reaching.{PutsOut};
-ghost use Rattle.reply_print.specs.Waiting.{IsPut, IsPutInPart};
 ghost use Rattle.reply_print.specs.Writing.{Writes};
 
 use crate::Wrote;
 use crate::gatherer::Gatherer;
 use crate::lines::{fault_line, line_of, number_line, run_line_of};
-use crate::outbox::Outbox;
 use crate::sending::Unsent;
 use arc_core::{Link, PipeFault, PipeStatus};
 
@@ -115,27 +113,5 @@ fn put_status<L: Link>(
     match status {
         PipeStatus::Word(word) => gatherer.put(line_of(word), link),
         PipeStatus::Number(number) => gatherer.put(number_line(number).bytes(), link),
-    }
-}
-
-/// Puts the lines of statuses behind all that waits, up to the first that has no room.
-pub(crate) fn add_statuses(statuses: &[PipeStatus], outbox: &mut Outbox) -> bool
-    ensures { IsPutInPart outbox.old outbox.new (flat_map status_text statuses.now) result }
-{
-    for status in statuses {
-        if !add_status(*status, outbox) {
-            return false;
-        }
-    }
-    true
-}
-
-// Puts the line of a status behind all that waits.
-fn add_status(status: PipeStatus, outbox: &mut Outbox) -> bool
-    ensures { IsPut outbox.old outbox.new (status_text status) result }
-{
-    match status {
-        PipeStatus::Word(word) => outbox.add(line_of(word)),
-        PipeStatus::Number(number) => outbox.add(number_line(number).bytes()),
     }
 }
