@@ -3,6 +3,8 @@ pub mod Owing
 pub mod Pulling
 pub mod Units
 pub mod Outside
+pub mod Runs
+pub mod SessionText
 pub mod Ends
 pub mod Turns
 pub mod Handling
