@@ -1,6 +1,6 @@
 -- The rows of the commands on collections are clear, what is spelled by them is read; and what they spell is a command on
 -- a collection.
-use Rattle.std.proofs.Common.{◌≡◌, ℕ, Bool, true, false, if◌then◌else◌, List, ◌++◌, refl, sym, subst, Option, Some, None, bytes_eq, inl, inr}
+use Rattle.std.proofs.Common.{◌≡◌, ℕ, Bool, true, false, if◌then◌else◌, List, [], ◌++◌, refl, sym, subst, Option, Some, None, bytes_eq, inl, inr}
 use Rattle.std.specs.Prelude.{codes, ◌⊎◌}
 use Rattle.std.specs.Bool.{Decides}
 use Rattle.std.proofs.lemmas.Slice.Eq.{bytes_eq-Decides}
@@ -167,7 +167,6 @@ drop-refuses = record { noreply = drop_is_no_noreply; pipe = drop_is_no_pipe }
 
 -- attributes are clear before the end of the line
 module _ (last : List ℕ → Option Answer) (say : SayHowSent last) where
-
   abbrev ending : CollCommand → Row CollHead
   ending asked = followed_by (perhaps (one last)) (λ sent. gives (head asked sent))
 

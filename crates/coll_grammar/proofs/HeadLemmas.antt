@@ -1,5 +1,5 @@
 -- What the answer to a line's words says of the line.
-use Rattle.std.proofs.Common.{◌≡◌, ℕ, Bool, true, false, List, [], ◌∷◌, refl, sym, ◌∙◌, ap, subst, Option, Some, None, Result, Ok, Err, inl, inr, bytes_eq, if◌then◌else◌}
+use Rattle.std.proofs.Common.{◌≡◌, ℕ, Bool, true, false, List, [], ◌∷◌, refl, sym, ◌∙◌, ap, subst, Option, Some, None, option_map, Result, Ok, Err, inl, inr, bytes_eq, if◌then◌else◌}
 use Rattle.std.specs.Prelude.{codes}
 use Rattle.std.specs.Bool.{Decides}
 use Rattle.std.specs.Result.{IfOk}
@@ -9,12 +9,14 @@ use Rattle.arc_core.specs.declared.coll_commands.CollHead.TheVariants as coll_he
 use Rattle.arc_core.specs.declared.coll_commands.CollName.{CollName}
 use Rattle.arc_core.specs.declared.commands.CommandName.{CommandName}
 use Rattle.arc_core.specs.declared.commands.Head.{Head}
-use Rattle.arc_core.specs.CollectionLines.{IsCollLine, IsCollHead, IsCollBadFormat, coll_name_of, coll_row_of, coll_is_quit, list_name_of, set_name_of, map_name_of}
-use Rattle.arc_core.specs.Grammar.{IsCommandLine, IsHead, IsUnknown, IsBadFormat, command_of}
+use Rattle.arc_core.specs.CollectionLines.{IsCollLine, IsCollHead, IsCollBadFormat, coll_head_of, coll_name_of, coll_row_of, coll_is_quit, list_name_of, set_name_of, map_name_of}
+use Rattle.arc_core.specs.Grammar.{IsCommandLine, IsHead, IsUnknown, IsBadFormat, command_of, row_of}
 use Rattle.arc_core.specs.Rows.{Spells, row_read}
 use Rattle.arc_core.specs.Words.{words}
 use Rattle.line_grammar.specs.declared.faults.LineFault.{LineFault}
 use Rattle.line_grammar.specs.declared.faults.LineFault.TheVariants.{BadFormat, Unknown}
+use Rattle.line_grammar.specs.Reading as kv_answer
+use Rattle.line_grammar.proofs.LineLemmas.{answer-from_IsHead, answer-from_IsBadFormat}
 use Rattle.line_grammar.proofs.RowLemmas.{Spells-from_row_read, row_read-from_Spells}
 use Rattle.coll_grammar.specs.Reading.{or_bad_format, answer_by, answer_to}
 use Rattle.coll_grammar.proofs.CollectionRows.{coll_row_of-is_clear, row_spells_no_key_value}
@@ -236,3 +238,31 @@ only-where_bad line fault other is bad read =
 -- the line is no key-value command where that fault is told
 pub is_unknown : (line : List ℕ) (fault : LineFault) → fault ≡ Unknown → (◌≡◌ {A = Result Head LineFault} (Err fault) (Err Unknown) → IsUnknown line) → IsUnknown line
 is_unknown line fault is unknown = unknown (rw is refl)
+
+-- the head that the line's words spell, read from the left, where it is a key-value command, or has a bad format as one
+
+key_value_read : (row : Option Head) (head : Head) → (kv_answer.or_bad_format row ≡ Ok head) → option_map coll_head.KeyValue row ≡ Some (coll_head.KeyValue head)
+key_value_read None head h = cc
+key_value_read (Some other) head h =
+    let same : other ≡ head = cc in
+    ap (λ one. Some (coll_head.KeyValue one)) same
+
+pub read-where_read : (line : List ℕ) (head : Head) → IsHead line head → coll_head_of (words line) ≡ Some (coll_head.KeyValue head)
+read-where_read line head at =
+    let row = row_of at.0 in
+    let answered = answer-from_IsHead line head at in
+    let read : kv_answer.or_bad_format (row_read row at.1) ≡ Ok head =
+    sym (ap kv_answer.answer_to at.2.words_are ∙ ap (λ name. kv_answer.answer_by name at.1) at.2.is_command) ∙ answered in
+    rw (at.2.words_are, at.2.is_command) (key_value_read (row_read row at.1) head read)
+
+not_key_value : (row : Option Head) → (kv_answer.or_bad_format row ≡ Err BadFormat) → option_map coll_head.KeyValue row ≡ None
+not_key_value None h = refl
+not_key_value (Some other) h = cc
+
+pub read-where_bad : (line : List ℕ) → IsBadFormat line → coll_head_of (words line) ≡ None
+read-where_bad line at =
+    let row = row_of at.0 in
+    let answered = answer-from_IsBadFormat line at in
+    let read : kv_answer.or_bad_format (row_read row at.1) ≡ Err BadFormat =
+    sym (ap kv_answer.answer_to at.2.words_are ∙ ap (λ name. kv_answer.answer_by name at.1) at.2.is_command) ∙ answered in
+    rw (at.2.words_are, at.2.is_command) (not_key_value (row_read row at.1) read)

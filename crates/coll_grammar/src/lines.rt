@@ -1,10 +1,11 @@
 //! Whole lines.
-ghost use Rattle.std.specs.Prelude.{◌≡◌, ◌↔◌, true, false, List, ℕ, IfOk, Ok, Err, MatchResult};
+ghost use Rattle.std.specs.Prelude.{◌≡◌, ◌↔◌, true, false, List, ℕ, Some, None, IfOk, Ok, Err, MatchResult};
 ghost use Rattle.arc_core.specs.declared.outside.Need.TheVariants as need;
 ghost use Rattle.arc_core.specs.Rows.{row_read};
 ghost use Rattle.arc_core.specs.declared.coll_commands.CollHead.{CollHead};
-ghost use Rattle.arc_core.specs.CollectionLines.{IsCollHead, IsCollUnknown, IsCollBadFormat, IsBadBlock, IsQuit, SpellsRequest, coll_line_needs, coll_line_is_silent, coll_need_of, coll_answer, coll_is_quit, coll_row_of};
+ghost use Rattle.arc_core.specs.CollectionLines.{IsCollHead, IsCollUnknown, IsCollBadFormat, IsBadBlock, IsQuit, SpellsRequest, coll_head_of, coll_line_needs, coll_line_is_silent, coll_need_of, coll_answer, coll_is_quit, coll_row_of};
 ghost use Rattle.arc_core.specs.Grammar.{is_silent};
+ghost use Rattle.arc_core.specs.Words.{words};
 ghost use Rattle.arc_core.specs.PlainRequest.{PlainRequest};
 ghost use Rattle.coll_grammar.specs.Reading.{answer_to};
 
@@ -24,6 +25,9 @@ pub fn read_head(line: &[u8]) -> Result<CollHead<'_>, LineFault>
     ensures only { (head : CollHead) → IsCollHead line.now head → result ≡ Ok head }
     ensures unknown { (result ≡ Err LineFault.Unknown) ↔ IsCollUnknown line.now }
     ensures bad_format { (result ≡ Err LineFault.BadFormat) ↔ IsCollBadFormat line.now }
+    ensures read { MatchResult result
+        (λ head. coll_head_of (words line.now) ≡ Some head)
+        (λ _. coll_head_of (words line.now) ≡ None) }
     ensures needs { MatchResult result
         (λ head. coll_line_needs line.now ≡ coll_need_of head)
         (λ _. coll_line_needs line.now ≡ need.Nothing) }

@@ -5,7 +5,8 @@ ghost use Rattle.arc_core.specs.ListGrammar.{create_row, list_insert_row, list_d
 ghost use Rattle.arc_core.specs.Rows.{row_read};
 
 use crate::parts::{
-    alone, answered, answered_or_piped, attributes, creation, next_index, next_len, next_range, skip_drop, taking,
+    alone, answered, answered_or_piped, attributes, creation, next_index, next_len, next_range,
+    skip_drop, taking,
 };
 use arc_core::{CollCommand, CollHead, Kind, WordIter};
 

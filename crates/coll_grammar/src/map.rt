@@ -5,7 +5,8 @@ ghost use Rattle.arc_core.specs.MapGrammar.{map_insert_row, map_update_row, map_
 ghost use Rattle.arc_core.specs.Rows.{row_read};
 
 use crate::parts::{
-    alone, answered_or_piped, creation, next_field, next_len, next_number_of_fields, skip_drop, taking,
+    alone, answered_or_piped, creation, next_field, next_len, next_number_of_fields, skip_drop,
+    taking,
 };
 use arc_core::{CollCommand, CollHead, Kind, WordIter};
 

@@ -346,10 +346,7 @@ pub fn answered_or_piped<'a>(
 }
 
 /// The head of a command whose line goes on with `[pipe]`, and ends.
-pub fn alone_or_piped<'a>(
-    command: CollCommand<'a>,
-    mut words: WordIter<'a>,
-) -> Option<CollHead<'a>>
+pub fn alone_or_piped<'a>(command: CollCommand<'a>, mut words: WordIter<'a>) -> Option<CollHead<'a>>
     ensures { result ≡ row_read (followed_by (perhaps (one pipe_word)) (λ sent. gives (head command.entry sent))) words.entry }
 {
     let answer = match words.next() {

@@ -4,7 +4,9 @@ ghost use Rattle.std.specs.Prelude.{◌≡◌};
 ghost use Rattle.arc_core.specs.SetGrammar.{set_insert_row, set_delete_row, set_exist_row, set_get_row};
 ghost use Rattle.arc_core.specs.Rows.{row_read};
 
-use crate::parts::{alone, alone_or_piped, answered_or_piped, creation, next_len, skip_drop, taking};
+use crate::parts::{
+    alone, alone_or_piped, answered_or_piped, creation, next_len, skip_drop, taking,
+};
 use arc_core::{CollCommand, CollHead, Kind, WordIter};
 
 /// Reads what follows `sop insert`:

@@ -1,5 +1,5 @@
 -- How a session is over, and how it goes on by a pull.
-use Rattle.std.proofs.Common.{◌≡◌, ◌≤◌, ◌<◌, ◌+◌, ◌^◌, ℕ, List, [], ◌∷◌, ◌++◌, length, Option, Some, None, Err, refl, sym, ap, ◌∙◌, inl, inr, subst, append_assoc, length-append, arith}
+use Rattle.std.proofs.Common.{◌≡◌, ◌⊎◌, ◌≤◌, ◌<◌, ◌+◌, ◌^◌, ℕ, List, [], ◌∷◌, ◌++◌, length, Option, Some, None, Err, refl, sym, ap, ◌∙◌, inl, inr, subst, append_assoc, length-append, arith, true, false}
 use Rattle.std.specs.Prelude.{IfSome, MatchOption}
 use Rattle.std.proofs.lemmas.List.{append-nil}
 use Rattle.arc_core.specs.declared.ends.End.{End}
@@ -9,7 +9,10 @@ use Rattle.arc_core.specs.Framing.{BeginsWith, IsRest, IsSpan}
 use Rattle.arc_core.specs.CollectionLines.{coll_line_needs}
 use Rattle.arc_core.specs.History.{Entry}
 use Rattle.arc_core.specs.Outside.{Rose, Incoming, Outgoing, outgoing, first_then, then_sent, sent_more, CameToEnd, FailedToPull}
-use Rattle.pipe_session.specs.SessionText.{IsQuitUnit}
+use Rattle.arc_core.specs.Framing.{Whole}
+use Rattle.pipe_session.specs.Runs.{Kept}
+use Rattle.pipe_session.specs.SessionText.{IsQuitUnit, Tells}
+use Rattle.pipe_session.proofs.RunLemmas.{all_told, told_so_far, told_with_answer, owed_answer}
 use Rattle.frame_reader.specs.Progress.{Progress, StandsFor, ready_unit}
 use Rattle.pipe_session.specs.declared.phase.Phase.{Phase}
 use Rattle.pipe_session.specs.declared.phase.Phase.TheVariants as phase
@@ -21,8 +24,8 @@ use Rattle.reply_print.specs.Writing.{CountsStay}
 use Rattle.pipe_session.specs.Outside.{outside, Moment, moment}
 use Rattle.pipe_session.specs.Owing.{SentUpto, HasCause, Sends}
 use Rattle.pipe_session.specs.Units.{IsTooLong, IsBetweenUnits, OnlyLastFinal}
-use Rattle.pipe_session.specs.Ends.{Ends, CountsOnly, HandledAll, IsSentInPart, end_behind}
-use Rattle.pipe_session.specs.Turns.{Standing, Deeds, SoFar, IsWithin, GoesOn, StopsBehind, IsOver, IsReading, LinkLeaves, TurnLeaves, WentOn, stopped, turn_unsent}
+use Rattle.pipe_session.specs.Ends.{Ends, CountsOnly, HandledAll, IsSentInPart, end_behind, is_closed}
+use Rattle.pipe_session.specs.Turns.{Standing, Deeds, SoFar, HasEnded, IsAtEnd, IsWithin, GoesOn, StopsBehind, TellsNow, IsOver, IsReading, LinkLeaves, TurnLeaves, WentOn, stopped, turn_unsent}
 use Rattle.pipe_session.proofs.Texts.{sent_more_on}
 use Rattle.pipe_session.proofs.Histories.{spans_more, only_of_none}
 
@@ -49,6 +52,7 @@ spanned : (phase : Phase) (at : Standing) (deeds : Deeds) → IsWithin phase at 
 spanned phase.Going at deeds within = record { tail = within.tail ++ at.ahead; spans = within.spans; last = only_of_none deeds.units within.none_final }
 spanned phase.Quit at deeds within = record { tail = at.ahead; spans = within.spans; last = within.last }
 spanned phase.LineTooLong at deeds within = record { tail = at.ahead; spans = within.spans; last = within.last }
+spanned phase.Ended at deeds within = record { tail = within.0.tail ++ at.ahead; spans = within.0.spans; last = only_of_none deeds.units within.0.none_final }
 spanned phase.Over at deeds within = absurd within
 
 -- what was sent more
@@ -61,27 +65,51 @@ pub record SameBut (at at' : Standing) : Type 0 where
   pub ahead : at'.ahead ≡ at.ahead
   pub taken : at'.taken ≡ at.taken
   pub phase : at'.phase ≡ at.phase
+  pub run : at'.run ≡ at.run
 
-within_same : (p : Phase) (at at' : Standing) (deeds : Deeds) (front : List ℕ) → SameBut at at' → IsWithin p at deeds → IsWithin p at' (with_gone deeds front)
-within_same phase.Going at at' deeds front same within = record {
+goes_same : (at at' : Standing) (deeds : Deeds) (front : List ℕ) → SameBut at at' → GoesOn at deeds → GoesOn at' (with_gone deeds front)
+goes_same at at' deeds front same within = record {
   tail = within.tail;
   spans = subst (λ a. BeginsWith coll_line_needs deeds.taken deeds.units (within.tail ++ a)) (sym same.ahead) within.spans;
   stands = subst (λ p. StandsFor coll_line_needs p within.tail) (sym same.progress) within.stands;
   none_final = within.none_final;
 }
+
+within_same : (p : Phase) (at at' : Standing) (deeds : Deeds) (front : List ℕ) → SameBut at at' → IsWithin p at deeds → IsWithin p at' (with_gone deeds front)
+within_same phase.Going at at' deeds front same within = goes_same at at' deeds front same within
+within_same phase.Ended at at' deeds front same within = (goes_same at at' deeds front same within.0, same.ahead ∙ within.1)
 within_same phase.Quit at at' deeds front same within = record {
   spans = subst (BeginsWith coll_line_needs deeds.taken deeds.units) (sym same.ahead) within.spans;
   ends = within.ends;
   last = within.last;
   short = subst (λ a. length a < 16384) (sym same.ahead) within.short;
+  no_run = ap (λ (k : Kept). k.is_open) same.run ∙ within.no_run;
 }
 within_same phase.LineTooLong at at' deeds front same within = record {
   spans = subst (BeginsWith coll_line_needs deeds.taken deeds.units) (sym same.ahead) within.spans;
   ends = within.ends;
   last = within.last;
   short = subst (λ a. length a < 16384) (sym same.ahead) within.short;
+  no_run = ap (λ (k : Kept). k.is_open) same.run ∙ within.no_run;
 }
 within_same phase.Over at at' deeds front same within = within
+
+-- what units tell by now, of a session that is in the same phase with the same run
+tells_same : (p p' : Phase) (kept kept' : Kept) (units : List Whole) (entries : List Entry) (text : List ℕ) → p' ≡ p → kept' ≡ kept → TellsNow p kept units entries text → TellsNow p' kept' units entries text
+tells_same p p' kept kept' units entries text same same_run told =
+    subst (λ q. TellsNow q kept' units entries text) (sym same) (subst (λ r. TellsNow p r units entries text) (sym same_run) told)
+
+-- all is told with the answer to the run that is open, where one is
+pub record ToldAll (units : List Whole) (entries : List Entry) (text : List ℕ) : Type 0 where
+  pub rest : List ℕ
+  pub tells : Tells true units entries (text ++ rest)
+
+told_all : (p : Phase) (kept : Kept) (units : List Whole) (entries : List Entry) (text : List ℕ) → TellsNow p kept units entries text → ToldAll units entries text
+told_all phase.Going kept units entries text told = record { rest = owed_answer kept; tells = told_with_answer units entries text kept told }
+told_all phase.Quit kept units entries text told = record { rest = owed_answer kept; tells = told_with_answer units entries text kept told }
+told_all phase.LineTooLong kept units entries text told = record { rest = owed_answer kept; tells = told_with_answer units entries text kept told }
+told_all phase.Ended kept units entries text told = record { rest = []; tells = subst (Tells true units entries) (sym (append-nil text)) told }
+told_all phase.Over kept units entries text told = record { rest = owed_answer kept; tells = told_with_answer units entries text kept told }
 
 module _ {D : Type 0} (answers : D → Entry → D → Type 0) (began : Moment D) (desk : D) (coming : Option (List ℕ)) (into : Incoming) (out : Outgoing) (at : Standing) (deeds : Deeds)
     (so : SoFar answers began (moment desk (outside into out coming)) at deeds) where
@@ -99,35 +127,39 @@ module _ {D : Type 0} (answers : D → Entry → D → Type 0) (began : Moment D
       no_fault = so.no_fault;
       number = so.number ∙ sym same.taken;
       within = subst (λ p. IsWithin p at' (with_gone deeds part.front)) (sym same.phase) (within_same at.phase at at' deeds part.front same so.within);
-      tells = so.tells;
+      at_end = subst (λ p. IsAtEnd p into deeds.taken) (sym same.phase) so.at_end;
+      tells = tells_same at.phase at'.phase at.run at'.run deeds.units deeds.entries deeds.text same.phase same.run so.tells;
       served = so.served;
       seconds = so.seconds;
       parts = parts_on;
       sent = sent_on (out_is out out' part.front part.sent faults refusals);
     }
 
-    in_part : IsSentInPart began.outside.out.sent out'.sent deeds.text
+    all : ToldAll deeds.units deeds.entries deeds.text
+    all = told_all at.phase at.run deeds.units deeds.entries deeds.text so.tells
+
+    in_part : IsSentInPart began.outside.out.sent out'.sent (deeds.text ++ all.rest)
     in_part = record {
       front = deeds.gone ++ part.front;
-      back = at'.owed;
-      parts = parts_on;
+      back = at'.owed ++ all.rest;
+      parts = ap (λ t. t ++ all.rest) parts_on ∙ append_assoc (deeds.gone ++ part.front) at'.owed all.rest;
       sent_is = part.sent ∙ ap (λ o. then_sent o.sent part.front) so.sent ∙ ap (λ o. o.sent) (sent_more_on began.outside.out deeds.gone part.front);
     }
 
-    broke_off : (ending : End) → Ends ending began.outside (outside into out' coming) deeds.taken deeds.units (spanned at.phase at deeds so.within).tail deeds.text
+    broke_off : (ending : End) → is_closed ending ≡ true → Ends ending began.outside (outside into out' coming) deeds.taken deeds.units (spanned at.phase at deeds so.within).tail (deeds.text ++ all.rest)
         → CountsOnly ending began.outside (outside into out' coming) → IsOver answers began (moment desk (outside into out' coming)) ending
-    broke_off ending ends counts =
+    broke_off ending closed ends counts =
         let spans = spanned at.phase at deeds so.within in
         record {
           taken = deeds.taken;
           units = deeds.units;
           tail = spans.tail;
           entries = deeds.entries;
-          text = deeds.text;
+          text = deeds.text ++ all.rest;
           took = so.took;
           spans = spans.spans;
           last = spans.last;
-          tells = so.tells;
+          tells = subst (λ b. Tells b deeds.units deeds.entries (deeds.text ++ all.rest)) (sym closed) all.tells;
           served = so.served;
           seconds = so.seconds;
           ends = ends;
@@ -142,13 +174,13 @@ module _ {D : Type 0} (answers : D → Entry → D → Type 0) (began : Moment D
         → LinkLeaves answers began (moment desk (outside into out' coming)) agains agains' (stopped cause at') deeds (turn_unsent cause)
     could_not_send unsent.Again agains agains' few has = (with_gone deeds part.front, sent_so_far has.same_faults has.same_refusals, has.rose)
     could_not_send unsent.Failed agains agains' few has = (
-      broke_off end.WriteFault
+      broke_off end.WriteFault refl
           (record { fault = subst (λ f. Rose f out'.faults) (ap (λ o. o.faults) so.sent) has.rose; few = few_taken few; sent = in_part })
           (so.no_fault, has.same_refusals ∙ ap (λ o. o.refusals) so.sent),
       refl,
     )
     could_not_send unsent.NoMemory agains agains' few has = (
-      broke_off end.NoMemory
+      broke_off end.NoMemory refl
           (record { refused = subst (λ r. Rose r out'.refusals) (ap (λ o. o.refusals) so.sent) has.rose; few = few_taken few; sent = in_part })
           (so.no_fault, has.same_faults ∙ ap (λ o. o.faults) so.sent),
       refl,
@@ -178,7 +210,7 @@ module _ {D : Type 0} (answers : D → Entry → D → Type 0) (began : Moment D
           took = so.took;
           spans = stops.spans;
           last = stops.last;
-          tells = so.tells;
+          tells = all_told true deeds.units deeds.entries deeds.text at.run (subst (λ p. TellsNow p at.run deeds.units deeds.entries deeds.text) is so.tells) stops.no_run;
           served = so.served;
           seconds = so.seconds;
           ends = record { quits = stops.ends; short_tail = stops.short; few = omega (arith, so.number, few); sent = whole };
@@ -198,7 +230,7 @@ module _ {D : Type 0} (answers : D → Entry → D → Type 0) (began : Moment D
           took = so.took;
           spans = stops.spans;
           last = stops.last;
-          tells = so.tells;
+          tells = all_told true deeds.units deeds.entries deeds.text at.run (subst (λ p. TellsNow p at.run deeds.units deeds.entries deeds.text) is so.tells) stops.no_run;
           served = so.served;
           seconds = so.seconds;
           ends = record { too_long = stops.ends; short_tail = stops.short; few = omega (arith, so.number, few); sent = whole };
@@ -215,9 +247,9 @@ module _ {D : Type 0} (answers : D → Entry → D → Type 0) (began : Moment D
 
       -- a piece came
       pub pulled : (into' : Incoming) (at' : Standing) (piece : List ℕ) → into.left ≡ first_then piece into'.left → into'.faults ≡ into.faults → 0 < length piece
-          → at'.ahead ≡ piece → at'.progress ≡ at.progress → at'.owed ≡ at.owed → at'.phase ≡ at.phase → at'.taken ≡ at.taken + length piece → (agains agains' : ℕ) → agains' ≡ agains
+          → at'.ahead ≡ piece → at'.progress ≡ at.progress → at'.owed ≡ at.owed → at'.run ≡ at.run → at'.phase ≡ at.phase → at'.taken ≡ at.taken + length piece → (agains agains' : ℕ) → agains' ≡ agains
           → LinkLeaves answers began (moment desk (outside into' out coming)) agains agains' at' deeds turn.More
-      pulled into' at' piece came faults some ahead progress owed same taken agains agains' steady =
+      pulled into' at' piece came faults some ahead progress owed run same taken agains agains' steady =
           let more : Deeds = record deeds { taken = deeds.taken ++ piece } in (
             more,
             record {
@@ -231,7 +263,8 @@ module _ {D : Type 0} (answers : D → Entry → D → Type 0) (began : Moment D
                 stands = subst (λ p. StandsFor coll_line_needs p goes.tail) (sym progress) goes.stands;
                 none_final = goes.none_final;
               });
-              tells = so.tells;
+              at_end = subst (λ p. IsAtEnd p into' more.taken) (sym (same ∙ going)) tt;
+              tells = tells_same at.phase at'.phase at.run at'.run deeds.units deeds.entries deeds.text same run so.tells;
               served = so.served;
               seconds = so.seconds;
               parts = so.parts ∙ ap (λ o. deeds.gone ++ o) (sym owed);
@@ -256,7 +289,8 @@ module _ {D : Type 0} (answers : D → Entry → D → Type 0) (began : Moment D
             stands = subst (λ p. StandsFor coll_line_needs p goes.tail) (sym same.progress) goes.stands;
             none_final = goes.none_final;
           });
-          tells = so.tells;
+          at_end = subst (λ p. IsAtEnd p into' deeds.taken) (sym (same.phase ∙ going)) tt;
+          tells = tells_same at.phase at'.phase at.run at'.run deeds.units deeds.entries deeds.text same.phase same.run so.tells;
           served = so.served;
           seconds = so.seconds;
           parts = so.parts ∙ ap (λ o. deeds.gone ++ o) (sym owed);
@@ -269,10 +303,10 @@ module _ {D : Type 0} (answers : D → Entry → D → Type 0) (began : Moment D
         handled : HandledAll deeds.units goes.tail
         handled = record { none_final = goes.none_final; unfinished = rest goes.tail goes.stands }
 
-        over_here : (ending : End) (into' : Incoming) → began.outside.incoming.left ≡ first_then deeds.taken into'.left
+        over_here : (ending : End) (into' : Incoming) → is_closed ending ≡ false → began.outside.incoming.left ≡ first_then deeds.taken into'.left
             → Ends ending began.outside (outside into' out coming) deeds.taken deeds.units goes.tail deeds.text → CountsOnly ending began.outside (outside into' out coming)
             → IsOver answers began (moment desk (outside into' out coming)) ending
-        over_here ending into' took ends counts = record {
+        over_here ending into' open took ends counts = record {
           taken = deeds.taken;
           units = deeds.units;
           tail = goes.tail;
@@ -281,7 +315,8 @@ module _ {D : Type 0} (answers : D → Entry → D → Type 0) (began : Moment D
           took = took;
           spans = spans_here;
           last = only_of_none deeds.units goes.none_final;
-          tells = so.tells;
+          tells = subst (λ b. Tells b deeds.units deeds.entries deeds.text) (sym open)
+              (told_so_far deeds.units deeds.entries deeds.text at.run (subst (λ p. TellsNow p at.run deeds.units deeds.entries deeds.text) going so.tells));
           served = so.served;
           seconds = so.seconds;
           ends = ends;
@@ -291,35 +326,88 @@ module _ {D : Type 0} (answers : D → Entry → D → Type 0) (began : Moment D
         -- the session is over at 2^40 bytes
         pub over_at_limit : at.taken ≡ 2 ^ 40 → IsOver answers began (moment desk (outside into out coming)) end.LongInput
         over_at_limit all =
-            over_here end.LongInput into so.took (record { all_taken = so.number ∙ all; handled = handled; sent = whole }) (so.no_fault, same_writes, same_refusals)
+            over_here end.LongInput into refl so.took (record { all_taken = so.number ∙ all; handled = handled; sent = whole }) (so.no_fault, same_writes, same_refusals)
 
         -- the session is over at a read fault
         pub over_at_read_fault : (into' : Incoming) → at.taken < 2 ^ 40 → FailedToPull into into' → IsOver answers began (moment desk (outside into' out coming)) end.ReadFault
         over_at_read_fault into' short failed =
-            over_here end.ReadFault into' (so.took ∙ ap (first_then deeds.taken) (sym failed.same_left))
+            over_here end.ReadFault into' refl (so.took ∙ ap (first_then deeds.taken) (sym failed.same_left))
             (record { fault = subst (λ f. Rose f into'.faults) so.no_fault failed.rose; short = omega (arith, so.number, short); handled = handled; sent = whole })
             (same_writes, same_refusals)
 
-        -- the session is over where the input has ending
-        ends_at : (tail : List ℕ) (into' : Incoming) → IfSome into'.left (λ bytes. bytes ≡ []) → into'.faults ≡ began.outside.incoming.faults → length deeds.taken < 2 ^ 40 → HandledAll deeds.units tail
-            → Ends (end_behind tail) began.outside (outside into' out coming) deeds.taken deeds.units tail deeds.text
-        ends_at [] into' ending faults short all = record { read = record { ended = ending; no_fault = faults; short = short }; behind_a_unit = refl; handled = all; sent = whole }
-        ends_at (byte ∷ tail) into' ending faults short all =
-            record { read = record { ended = ending; no_fault = faults; short = short }; within_a_unit = omega arith; came = refl; handled = all; sent = whole }
+      -- the input has ended, and the run that was open is answered
+      pub came_to_end : (into' : Incoming) (at' : Standing) → at.taken < 2 ^ 40 → CameToEnd into into' → at'.ahead ≡ at.ahead → at'.progress ≡ at.progress → at'.taken ≡ at.taken → at'.phase ≡ phase.Ended
+          → at'.owed ≡ at.owed ++ owed_answer at.run
+          → SoFar answers began (moment desk (outside into' out coming)) at' (record deeds { text = deeds.text ++ owed_answer at.run })
+      came_to_end into' at' short came ahead progress taken ended owed = record {
+        took = so.took ∙ ap (first_then deeds.taken) (sym came.same_left);
+        no_fault = came.same_faults ∙ so.no_fault;
+        number = so.number ∙ sym taken;
+        within = subst (λ p. IsWithin p at' (record deeds { text = deeds.text ++ owed_answer at.run })) (sym ended) (
+          record {
+            tail = goes.tail;
+            spans = subst (λ a. BeginsWith coll_line_needs deeds.taken deeds.units (goes.tail ++ a)) (sym ahead) goes.spans;
+            stands = subst (λ p. StandsFor coll_line_needs p goes.tail) (sym progress) goes.stands;
+            none_final = goes.none_final;
+          },
+          ahead ∙ read,
+        );
+        at_end = subst (λ p. IsAtEnd p into' deeds.taken) (sym ended)
+            (record { nothing_left = subst (λ l. IfSome l (λ bytes. bytes ≡ [])) (sym came.same_left) came.ended; short = omega (arith, so.number, short) });
+        tells = subst (λ p. TellsNow p at'.run deeds.units deeds.entries (deeds.text ++ owed_answer at.run)) (sym ended)
+            (told_with_answer deeds.units deeds.entries deeds.text at.run (subst (λ p. TellsNow p at.run deeds.units deeds.entries deeds.text) going so.tells));
+        served = so.served;
+        seconds = so.seconds;
+        parts = ap (λ t. t ++ owed_answer at.run) so.parts ∙ append_assoc deeds.gone at.owed (owed_answer at.run) ∙ ap (λ o. deeds.gone ++ o) (sym owed);
+        sent = so.sent;
+      }
 
-        counts_at : (tail : List ℕ) (into' : Incoming) → into'.faults ≡ began.outside.incoming.faults → CountsOnly (end_behind tail) began.outside (outside into' out coming)
-        counts_at [] into' faults = (faults, same_writes, same_refusals)
-        counts_at (byte ∷ tail) into' faults = (faults, same_writes, same_refusals)
+    -- behind the end of the input the session is over by how many bytes came of an unfinished unit
+    module _ (ended : at.phase ≡ phase.Ended) (rest : (bytes : List ℕ) → StandsFor coll_line_needs at.progress bytes → IsRest coll_line_needs bytes) where
+      stood : GoesOn at deeds × (at.ahead ≡ [])
+      stood = subst (λ p. IsWithin p at deeds) ended so.within
 
-        -- the end by how many bytes came of an unfinished unit
-        pub over_at_end : (into' : Incoming) (ending : End) → at.taken < 2 ^ 40 → CameToEnd into into' → ((tail : List ℕ) → StandsFor coll_line_needs at.progress tail → ending ≡ end_behind tail)
-            → IsOver answers began (moment desk (outside into' out coming)) ending
-        over_at_end into' ending short came is =
-            let faults = came.same_faults ∙ so.no_fault in
-            subst (IsOver answers began (moment desk (outside into' out coming))) (sym (is goes.tail goes.stands))
-            (over_here (end_behind goes.tail) into' (so.took ∙ ap (first_then deeds.taken) (sym came.same_left))
-            (ends_at goes.tail into' (subst (λ l. IfSome l (λ bytes. bytes ≡ [])) (sym came.same_left) came.ended) faults (omega (arith, so.number, short)) handled)
-            (counts_at goes.tail into' faults))
+      last_spans : BeginsWith coll_line_needs deeds.taken deeds.units stood.0.tail
+      last_spans = subst (BeginsWith coll_line_needs deeds.taken deeds.units) (ap (λ a. stood.0.tail ++ a) stood.1 ∙ append-nil stood.0.tail) stood.0.spans
+
+      came : HasEnded into deeds.taken
+      came = subst (λ p. IsAtEnd p into deeds.taken) ended so.at_end
+
+      all_handled : HandledAll deeds.units stood.0.tail
+      all_handled = record { none_final = stood.0.none_final; unfinished = rest stood.0.tail stood.0.stands }
+
+      -- so it is over by its tail
+      over_by : (tail : List ℕ) → BeginsWith coll_line_needs deeds.taken deeds.units tail → HandledAll deeds.units tail → (ending : End) → ending ≡ end_behind tail
+          → Ends ending began.outside (outside into out coming) deeds.taken deeds.units tail deeds.text → CountsOnly ending began.outside (outside into out coming) → is_closed ending ≡ true
+          → IsOver answers began (moment desk (outside into out coming)) ending
+      over_by tail spans handled ending is ends counts closed = record {
+        taken = deeds.taken;
+        units = deeds.units;
+        tail = tail;
+        entries = deeds.entries;
+        text = deeds.text;
+        took = so.took;
+        spans = spans;
+        last = only_of_none deeds.units stood.0.none_final;
+        tells = subst (λ b. Tells b deeds.units deeds.entries deeds.text) (sym closed) (subst (λ p. TellsNow p at.run deeds.units deeds.entries deeds.text) ended so.tells);
+        served = so.served;
+        seconds = so.seconds;
+        ends = ends;
+        counts = counts;
+      }
+
+      over_with : (tail : List ℕ) → BeginsWith coll_line_needs deeds.taken deeds.units tail → HandledAll deeds.units tail → IsOver answers began (moment desk (outside into out coming)) (end_behind tail)
+      over_with [] spans handled =
+          over_by [] spans handled end.Ended refl (record { read = record { ended = came.nothing_left; no_fault = so.no_fault; short = came.short }; behind_a_unit = refl; handled = handled; sent = whole })
+          (so.no_fault, same_writes, same_refusals) refl
+      over_with (byte ∷ tail) spans handled =
+          over_by (byte ∷ tail) spans handled (end.Cut (length (byte ∷ tail))) refl
+          (record { read = record { ended = came.nothing_left; no_fault = so.no_fault; short = came.short }; within_a_unit = omega arith; came = refl; handled = handled; sent = whole })
+          (so.no_fault, same_writes, same_refusals) refl
+
+      pub over_at_end : (ending : End) → ((tail : List ℕ) → StandsFor coll_line_needs at.progress tail → ending ≡ end_behind tail) → IsOver answers began (moment desk (outside into out coming)) ending
+      over_at_end ending is =
+          subst (IsOver answers began (moment desk (outside into out coming))) (sym (is stood.0.tail stood.0.stands)) (over_with stood.0.tail last_spans all_handled)
 
 -- the reader holds no whole unit
 pub holds_rest : (progress : Progress) → ready_unit progress ≡ None
@@ -391,13 +479,16 @@ module _ {D : Type 0} (answers : D → Entry → D → Type 0) (began : Moment D
 pub so_as : {D : Type 0} (answers : D → Entry → D → Type 0) (began here : Moment D) (at now : Standing) (deeds : Deeds) → at ≡ now → SoFar answers began here now deeds → SoFar answers began here at deeds
 so_as answers began here at now deeds seen so = subst (λ s. SoFar answers began here s deeds) (sym seen) so
 
-pub waits_as : (p : Phase) (progress : Progress) → p ≡ phase.Going → IsReading p progress → ready_unit progress ≡ None
-waits_as p progress going reads =
+pub waits_as : (p : Phase) (progress : Progress) → (p ≡ phase.Going) ⊎ (p ≡ phase.Ended) → IsReading p progress → ready_unit progress ≡ None
+waits_as p progress (inl going) reads =
     let between : IsBetweenUnits progress = subst (λ r. IsReading r progress) going reads in
     between.waits
+waits_as p progress (inr ended) reads =
+    let between : IsBetweenUnits progress = subst (λ r. IsReading r progress) ended reads in
+    between.waits
 
--- the reader of a session that goes on holds no whole unit
-pub rest_as : (p : Phase) (progress : Progress) → p ≡ phase.Going → IsReading p progress
+-- the reader of a session that goes on, or whose input has ended, holds no whole unit
+pub rest_as : (p : Phase) (progress : Progress) → (p ≡ phase.Going) ⊎ (p ≡ phase.Ended) → IsReading p progress
     → ((needs : List ℕ → Need) (progress : Progress) (bytes : List ℕ) → StandsFor needs progress bytes → MatchOption (ready_unit progress) (IsRest needs bytes) (λ unit. IsSpan needs bytes unit))
     → (bytes : List ℕ) → StandsFor coll_line_needs progress bytes → IsRest coll_line_needs bytes
 rest_as p progress going reads law = holds_rest progress (waits_as p progress going reads) law

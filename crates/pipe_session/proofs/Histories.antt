@@ -4,7 +4,6 @@ use Rattle.std.proofs.lemmas.List.{append-nil}
 use Rattle.arc_core.specs.declared.outside.Need.{Need}
 use Rattle.arc_core.specs.History.{Entry}
 use Rattle.arc_core.specs.Framing.{Whole, BeginsWith, IsSpan}
-use Rattle.pipe_session.specs.SessionText.{TellsUnit, Tells}
 use Rattle.pipe_session.specs.Desks.{Serves, TicksThrough}
 use Rattle.pipe_session.specs.Units.{IsFinal, NoneFinal, OnlyLastFinal}
 
@@ -42,26 +41,3 @@ pub only_of_none : (units : List Whole) → NoneFinal units → OnlyLastFinal un
 only_of_none [] is = tt
 only_of_none (first ∷ []) is = tt
 only_of_none (first ∷ second ∷ units) is = (is.0, only_of_none (second ∷ units) is.1)
-
--- what a unit behind others tells
-pub tells_on : (units : List Whole) (unit : Whole) (entries own : List Entry) (text said : List ℕ) → Tells true units entries text → TellsUnit unit own said → Tells true (units ++ unit ∷ []) (entries ++ own) (text ++ said)
-tells_on [] unit entries own text said is next = (
-  own,
-  [],
-  said,
-  [],
-  ap (λ e. e ++ own) is.0 ∙ sym (append-nil own),
-  ap (λ t. t ++ said) is.1 ∙ sym (append-nil said),
-  next,
-  (refl, refl),
-)
-tells_on (first ∷ units) unit entries own text said is next = (
-  is.0,
-  is.1 ++ own,
-  is.2,
-  is.3 ++ said,
-  ap (λ e. e ++ own) is.4 ∙ append_assoc is.0 is.1 own,
-  ap (λ t. t ++ said) is.5 ∙ append_assoc is.2 is.3 said,
-  is.6,
-  tells_on units unit is.1 own is.3 said is.7 next,
-)

@@ -1,8 +1,12 @@
 pub mod Texts
 pub mod Owing
+pub mod RunLemmas
 pub mod Pieces
+pub mod Piped
 pub mod Histories
+pub mod Facts
 pub mod Telling
 pub mod Fronts
+pub mod ToldMore
 pub mod Going
 pub mod Ending

@@ -1,16 +1,15 @@
 -- What was told of a line, and of a unit.
-use Rattle.std.proofs.Common.{◌≡◌, ℕ, List, [], ◌∷◌, ◌++◌, Bool, true, false, Option, Some, None, Result, Ok, Err, refl, sym, ap, ◌∙◌, inl, inr, subst, arith, zero, suc}
+use Rattle.std.proofs.Common.{◌≡◌, ℕ, List, [], ◌∷◌, ◌++◌, append_assoc, Bool, true, false, Option, Some, None, Result, Ok, Err, refl, sym, ap, ◌∙◌, inl, inr, subst, arith, zero, suc}
 use Rattle.std.proofs.lemmas.Bool.{cond-false, ne_eqb}
 use Rattle.std.proofs.lemmas.List.{append-nil}
-use Rattle.std.specs.Prelude.{if◌then◌else◌}
-use Rattle.std.specs.Option.{option_map}
+use Rattle.std.specs.Prelude.{if◌then◌else◌, not, ◌&&◌}
+use Rattle.std.specs.Option.{option_map, option_map_or}
 use Rattle.arc_core.specs.declared.outside.Need.{Need}
 use Rattle.arc_core.specs.declared.outside.Need.TheVariants as need
 use Rattle.arc_core.specs.declared.replies.Reply.{Reply}
 use Rattle.arc_core.specs.declared.replies.Word.{Word}
 use Rattle.arc_core.specs.declared.replies.Word.TheVariants as word
 use Rattle.arc_core.specs.declared.requests.Answer.{Answer}
-use Rattle.arc_core.specs.Outside.{Ticks}
 use Rattle.arc_core.specs.PlainRequest.{PlainRequest}
 use Rattle.arc_core.specs.declared.commands.Command.{Command}
 use Rattle.arc_core.specs.declared.commands.Command.TheVariants as command
@@ -19,17 +18,19 @@ use Rattle.arc_core.specs.declared.coll_commands.CollCommand.TheVariants as coll
 use Rattle.arc_core.specs.declared.coll_commands.CollHead.{CollHead}
 use Rattle.arc_core.specs.declared.coll_commands.CollHead.TheVariants as coll_head
 use Rattle.arc_core.specs.Words.{words, fields_counted, keys_counted}
-use Rattle.arc_core.specs.CollectionLines.{IsCollHead, coll_line_needs, coll_line_is_silent, coll_is_quit, coll_answer, coll_need_of, coll_request_of, element_limit, fields_need}
+use Rattle.arc_core.specs.CollectionLines.{IsCollHead, coll_line_needs, coll_line_is_silent, coll_is_quit, coll_answer, coll_head_of, coll_need_of, coll_request_of, element_limit, fields_need}
 use Rattle.arc_core.specs.Grammar.{Meets, block_limit, is_quit, is_silent, need_of, request_of}
 use Rattle.arc_core.specs.History.{Entry}
 use Rattle.arc_core.specs.ReplyText.{reply_text, word_line}
 use Rattle.arc_core.specs.Framing.{Whole}
 use Rattle.arc_core.specs.Framing as whole
-use Rattle.pipe_session.specs.SessionText.{TellsUnit, AnswersItself, IsQuitUnit, sent_for, sent_of}
+use Rattle.pipe_session.specs.Runs.{broken_answer_of, no_run}
+use Rattle.pipe_session.specs.SessionText.{TellsUnit, HasStatus, AnswersItself, IsQuitUnit, belongs, head_is_piped, have_piped_form, is_marked, line_belongs, line_is_marked, may_end_a_run, sent_for, sent_of}
 use Rattle.pipe_session.specs.declared.phase.Phase.{Phase}
 use Rattle.pipe_session.specs.declared.phase.Phase.TheVariants as phase
-use Rattle.pipe_session.specs.Desks.{Answered}
-use Rattle.pipe_session.specs.Handling.{Stand, IsTold, TellsHead, AnswersLine, QuitsByLine, TellsLine, HasItsBlock, HandlesLine, HandlesUnit, heard}
+use Rattle.arc_core.specs.declared.pipes.PipeStatus.{PipeStatus}
+use Rattle.pipe_session.proofs.Facts.{told_as, broken_off_by, executed_one}
+use Rattle.pipe_session.specs.Handling.{Stand, ExecutesOne, IsTold, IsToldAlone, BreaksRun, HeadStatus, LineStatus, head_facts, line_facts, unit_facts, word_facts, TellsHead, AnswersLine, QuitsByLine, TellsLine, HasItsBlock, HandlesLine, HandlesUnit, heard}
 
 -- two answers that are one
 pub only_ok : {A E : Type 0} (a other : A) → (let x : Result A E = Ok a in x ≡ Ok other) → a ≡ other
@@ -50,24 +51,34 @@ module _ {D : Type 0} (answers : D → Entry → D → Type 0) (from to : Stand 
   owes_heard answer owes = owes ∙ ap (λ s. from.owed ++ (if s then [] else answer)) same
 
   -- a request was executed at a second of the clock, and its reply was answered
-  pub told_request : (request : PlainRequest) (reply : Reply) (second : ℕ) → Some request ≡ coll_request_of head block
-      → Ticks from.coming second to.coming → Answered answers from.desk second request reply to.desk → to.owed ≡ from.owed ++ (if silent then [] else reply_text reply)
-      → IsTold answers (TellsHead head block) from to
-  told_request request reply second is ticks answered owes =
-      let entry = answered.0 in (
-        entry ∷ [],
-        heard head (reply_text reply),
-        inl (entry, sym is ∙ ap Some (sym answered.2), refl, ap (λ r. heard head (reply_text r)) (sym answered.3)),
-        record {
-          served = (to.desk, answered.4, refl);
-          seconds = (to.coming, subst (λ s. Ticks from.coming s to.coming) (sym answered.1) ticks, refl);
-          owed = owes_heard (reply_text reply) owes;
-        },
-      )
+  pub told_request : (request : PlainRequest) (reply : Reply) → Some request ≡ coll_request_of head block
+      → ExecutesOne answers from.desk from.coming request reply to.desk to.coming → to.owed ≡ from.owed ++ (if silent then [] else reply_text reply)
+      → IsToldAlone answers (TellsHead head block) from to
+  told_request request reply is one owes = (
+    one.0 ∷ [],
+    heard head (reply_text reply),
+    inl (one.0, sym is ∙ ap Some (sym one.1), refl, ap (λ r. heard head (reply_text r)) (sym one.2)),
+    executed_one answers from to request reply one (heard head (reply_text reply)) (owes_heard (reply_text reply) owes),
+  )
+
+  -- and was told behind a run that it broke off
+  pub broke_off : (request : PlainRequest) (reply : Reply) → Some request ≡ coll_request_of head block
+      → ExecutesOne answers from.desk from.coming request reply to.desk to.coming
+      → to.owed ≡ (from.owed ++ broken_answer_of from.run) ++ (if silent then [] else reply_text reply) → to.run ≡ no_run
+      → BreaksRun answers (TellsHead head block) from to
+  broke_off request reply is one owes none = (
+    one.0 ∷ [],
+    heard head (reply_text reply),
+    inl (one.0, sym is ∙ ap Some (sym one.1), refl, ap (λ r. heard head (reply_text r)) (sym one.2)),
+    executed_one answers from to request reply one (broken_answer_of from.run ++ heard head (reply_text reply))
+        (owes ∙ append_assoc from.owed (broken_answer_of from.run) (if silent then [] else reply_text reply)
+        ∙ ap (λ s. from.owed ++ (broken_answer_of from.run ++ (if s then [] else reply_text reply))) same),
+    none,
+  )
 
   -- the block is bad, and was answered so
   pub told_bad_block : None ≡ coll_request_of head block → to.desk ≡ from.desk → to.coming ≡ from.coming → to.owed ≡ from.owed ++ (if silent then [] else word_line word.BadChunk)
-      → IsTold answers (TellsHead head block) from to
+      → IsToldAlone answers (TellsHead head block) from to
   told_bad_block is desk coming owes =
       ([], heard head (word_line word.BadChunk), inr (sym is, refl, refl), record { served = desk; seconds = coming; owed = owes_heard (word_line word.BadChunk) owes })
 
@@ -151,12 +162,19 @@ pub quits_by : (line : List ℕ) (head : CollHead) → IsCollHead line head → 
 quits_by line head is_head needs quits =
     record { is_quit = (head, is_head, quits); asks_nothing = needs ∙ nothing_asked_at_quit head quits }
 
-module _ {D : Type 0} (answers : D → Entry → D → Type 0) (from to : Stand D) (line block : List ℕ) (head : CollHead) (is_head : IsCollHead line head) (needs : coll_line_needs line ≡ coll_need_of head) where
+module _ {D : Type 0} (answers : D → Entry → D → Type 0) (from to : Stand D) (line block : List ℕ) (head : CollHead) (is_head : IsCollHead line head) (read : coll_head_of (words line) ≡ Some head) (needs : coll_line_needs line ≡ coll_need_of head) where
   -- what the head told, the line told
   told_line : Meets (coll_need_of head) block → coll_line_is_silent line ≡ is_silent (coll_answer head) → coll_is_quit head ≡ false
-      → IsTold answers (TellsHead head block) from to → IsTold answers (TellsLine line block) from to
-  told_line is_block silent goes told = (told.0, told.1, tells told.0 told.1 told.2, told.3)
+      → IsTold answers (head_facts head block) from to → IsTold answers (line_facts line block) from to
+  told_line is_block silent goes told =
+      told_as answers (head_facts head block) (line_facts line block) (ap (λ o. option_map_or head_is_piped o (have_piped_form (words line))) read) (ap (λ o. line_belongs o block) read) as_status tells from to told
     where
+      as_status : (entries : List Entry) (told : PipeStatus) → HeadStatus head block entries told → LineStatus line block entries told
+      as_status entries told (inl is) = inl (is.0, (head, is_head, is_block, is.1), is.2, is.3)
+      as_status entries told (inr is) =
+          let asked = block_is_asked head block goes is_block is.0 in
+          inr (word.BadChunk, inr (asked.len, asked.limit, needs ∙ asked.is, (head, is_head, goes, is_block, is.0), refl), is.1, is.2)
+
       sent : (answer : List ℕ) → heard head answer ≡ sent_for line answer
       sent answer = ap (λ s. if s then [] else answer) (sym silent)
 
@@ -173,7 +191,7 @@ module _ {D : Type 0} (answers : D → Entry → D → Type 0) (from to : Stand 
 
   -- the line of this head was handled
   pub handles_head : Meets (coll_need_of head) block → coll_line_is_silent line ≡ is_silent (coll_answer head) → coll_is_quit head ≡ false
-      → ((other : CollHead) → IsCollHead line other → head ≡ other) → IsTold answers (TellsHead head block) from to → HandlesLine answers line block from to phase.Going
+      → ((other : CollHead) → IsCollHead line other → head ≡ other) → IsTold answers (head_facts head block) from to → HandlesLine answers line block from to phase.Going
   handles_head is_block silent goes only told = (told_line is_block silent goes told, no_quit, (λ long. long))
     where
       no_quit : QuitsByLine line → ⊥
@@ -183,24 +201,33 @@ module _ {D : Type 0} (answers : D → Entry → D → Type 0) (from to : Stand 
           let e : true ≡ false = sym same ∙ goes in
           cc
 
--- the line is `quit`, and nothing was done
-pub handles_quit : {D : Type 0} (answers : D → Entry → D → Type 0) (at : Stand D) (line block : List ℕ) → QuitsByLine line → HandlesLine answers line block at at phase.Quit
-handles_quit answers at line block quits =
-    (([], [], inr (inr (quits, refl, refl)), record { served = refl; seconds = refl; owed = sym (append-nil at.owed) }), quits)
+-- a head that ends the session is no piped command
+quit_is_alone : (head : CollHead) → coll_is_quit head ≡ true → head_is_piped head ≡ false
+quit_is_alone (coll_head.KeyValue head) quits = refl
+quit_is_alone (coll_head.Collection asked answer) quits = absurd cc
+
+-- the line is `quit`, and broke off the run that was open
+pub handles_quit : {D : Type 0} (answers : D → Entry → D → Type 0) (from to : Stand D) (line block : List ℕ) (head : CollHead) → QuitsByLine line → coll_head_of (words line) ≡ Some head → coll_is_quit head ≡ true
+    → to.desk ≡ from.desk → to.coming ≡ from.coming → to.owed ≡ from.owed ++ (if from.run.is_open then broken_answer_of from.run else []) → to.run ≡ (if from.run.is_open then no_run else from.run)
+    → HandlesLine answers line block from to phase.Quit
+handles_quit answers from to line block head quits read ends desk coming owes run =
+    let told = broken_off_by answers (line_facts line block) (ap (λ o. option_map_or head_is_piped o (have_piped_form (words line))) read ∙ quit_is_alone head ends)
+    (ap (λ o. line_belongs o block) read ∙ ap (λ b. not b && option_map_or may_end_a_run (coll_request_of head block) true) ends)
+    from to [] (inr (inr (quits, refl, refl))) desk coming (owes ∙ sym (append-nil _)) run in
+    (told.0, quits, told.1)
 
 -- the session answered the line
 pub handles_fault : {D : Type 0} (answers : D → Entry → D → Type 0) (from to : Stand D) (line block : List ℕ) (answer : Word) → AnswersLine line block answer → coll_line_is_silent line ≡ false
-    → ((head : CollHead) → IsCollHead line head → ⊥) → to.desk ≡ from.desk → to.coming ≡ from.coming → to.owed ≡ from.owed ++ word_line answer → HandlesLine answers line block from to phase.Going
-handles_fault answers from to line block answer why silent none desk coming owes = (
-  (
-    [],
-    sent_for line (word_line answer),
-    inr (inl (answer, why, refl, refl)),
-    record { served = desk; seconds = coming; owed = owes ∙ ap (λ s. from.owed ++ (if s then [] else word_line answer)) (sym silent) },
-  ),
+    → coll_head_of (words line) ≡ None → ((head : CollHead) → IsCollHead line head → ⊥) → IsTold answers (word_facts (have_piped_form (words line)) false answer) from to → HandlesLine answers line block from to phase.Going
+handles_fault answers from to line block answer why silent read none told = (
+  told_as answers (word_facts (have_piped_form (words line)) false answer) (line_facts line block) (ap (λ o. option_map_or head_is_piped o (have_piped_form (words line))) read)
+      (ap (λ o. line_belongs o block) read) (λ entries told is. inr (answer, why, is.0, is.1)) tells from to told,
   (λ (quits : QuitsByLine line). none quits.is_quit.0 quits.is_quit.1),
   (λ long. long),
 )
+  where
+    tells : (entries : List Entry) (text : List ℕ) → (entries ≡ []) × (text ≡ word_line answer) → TellsLine line block entries text
+    tells entries text is = inr (inl (answer, why, is.0, is.1 ∙ ap (λ s. if s then [] else word_line answer) (sym silent)))
 
 -- a line's block is one that its head may have
 pub block_for : (need : Need) (line block : List ℕ) → coll_line_needs line ≡ need → HasItsBlock line block → Meets need block
@@ -237,16 +264,24 @@ line_handled answers from to text behind nothing is = by_cases behind is
     ]
     tells entries said (inr (inr one)) = inr (inr (one.0.is_quit, one.1, one.2))
 
-    told : IsTold answers (TellsLine text []) from to → IsTold answers (TellsUnit (whole.line text)) from to
-    told is = (is.0, is.1, tells is.0 is.1 is.2, is.3)
+    as_status : (entries : List Entry) (said : PipeStatus) → LineStatus text [] entries said → HasStatus (whole.line text) entries said
+    as_status entries said (inl one) = inl one
+    as_status entries said (inr one) = elim one.1 [
+      | inl why ↦ inr (one.0, why.1, one.2, one.3)
+      | inr bad ↦ absurd (nothing_is_asked text bad.0 bad.1 nothing bad.2)
+    ]
+
+    told : IsTold answers (line_facts text []) from to → IsTold answers (unit_facts (whole.line text)) from to
+    told is = told_as answers (line_facts text []) (unit_facts (whole.line text)) refl refl as_status tells from to is
 
     not_long : whole.line text ≡ whole.line_too_long → ⊥
     not_long e = cc
 
     by_cases : (behind : Phase) → HandlesLine answers text [] from to behind → HandlesUnit answers (whole.line text) from to behind
     by_cases phase.Going is = (told is.0, (λ quits. is.1 (record { is_quit = quits; asks_nothing = nothing })), not_long)
-    by_cases phase.Quit is = (told is.0, is.1.is_quit)
+    by_cases phase.Quit is = (told is.0, is.1.is_quit, is.2)
     by_cases phase.LineTooLong is = absurd is.1
+    by_cases phase.Ended is = is
     by_cases phase.Over is = is
 
 -- what a line with its block told
@@ -262,8 +297,15 @@ block_handled answers from to text block len limit behind asks is = by_cases beh
     ]
     tells entries said (inr (inr one)) = absurd (nothing_is_asked text len limit one.0.asks_nothing asks)
 
-    told : IsTold answers (TellsLine text block) from to → IsTold answers (TellsUnit (whole.line_with_block text block)) from to
-    told is = (is.0, is.1, tells is.0 is.1 is.2, is.3)
+    as_status : (entries : List Entry) (said : PipeStatus) → LineStatus text block entries said → HasStatus (whole.line_with_block text block) entries said
+    as_status entries said (inl one) = inl one
+    as_status entries said (inr one) = elim one.1 [
+      | inl why ↦ absurd (nothing_is_asked text len limit why.0 asks)
+      | inr bad ↦ inr (one.0, (bad.3, bad.4), one.2, one.3)
+    ]
+
+    told : IsTold answers (line_facts text block) from to → IsTold answers (unit_facts (whole.line_with_block text block)) from to
+    told is = told_as answers (line_facts text block) (unit_facts (whole.line_with_block text block)) refl refl as_status tells from to is
 
     not_long : whole.line_with_block text block ≡ whole.line_too_long → ⊥
     not_long e = cc
@@ -272,21 +314,24 @@ block_handled answers from to text block len limit behind asks is = by_cases beh
     by_cases phase.Going is = (told is.0, (λ quits. quits), not_long)
     by_cases phase.Quit is = absurd (nothing_is_asked text len limit is.1.asks_nothing asks)
     by_cases phase.LineTooLong is = absurd is.1
+    by_cases phase.Ended is = is
     by_cases phase.Over is = is
 
--- the session answered a unit
-answered : {D : Type 0} (answers : D → Entry → D → Type 0) (from to : Stand D) (unit : Whole) (answer : Word) → AnswersItself unit answer → to.desk ≡ from.desk → to.coming ≡ from.coming
-    → to.owed ≡ from.owed ++ sent_of unit (word_line answer) → IsTold answers (TellsUnit unit) from to
-answered answers from to unit answer why desk coming owes =
-    ([], sent_of unit (word_line answer), inr (inl (answer, why, refl, refl)), record { served = desk; seconds = coming; owed = owes })
-
 -- the session answered a unit behind which it goes on
-pub answer_handled : {D : Type 0} (answers : D → Entry → D → Type 0) (from to : Stand D) (unit : Whole) (answer : Word) → AnswersItself unit answer → (IsQuitUnit unit → ⊥) → (unit ≡ whole.line_too_long → ⊥)
-    → to.desk ≡ from.desk → to.coming ≡ from.coming → to.owed ≡ from.owed ++ sent_of unit (word_line answer) → HandlesUnit answers unit from to phase.Going
-answer_handled answers from to unit answer why no_quit not_long desk coming owes =
-    (answered answers from to unit answer why desk coming owes, no_quit, not_long)
+pub answer_handled : {D : Type 0} (answers : D → Entry → D → Type 0) (from to : Stand D) (unit : Whole) (text : List ℕ) (answer : Word) → AnswersItself unit answer → is_marked unit ≡ line_is_marked text → belongs unit ≡ true
+    → sent_of unit (word_line answer) ≡ sent_for text (word_line answer) → (IsQuitUnit unit → ⊥) → (unit ≡ whole.line_too_long → ⊥)
+    → IsTold answers (word_facts (line_is_marked text) (coll_line_is_silent text) answer) from to → HandlesUnit answers unit from to phase.Going
+answer_handled answers from to unit text answer why marked joins sent no_quit not_long told = (
+  told_as answers (word_facts (line_is_marked text) (coll_line_is_silent text) answer) (unit_facts unit) marked joins (λ entries told is. inr (answer, why, is.0, is.1))
+      (λ entries said is. inr (inl (answer, why, is.0, is.1 ∙ sym sent))) from to told,
+  no_quit,
+  not_long,
+)
 
 -- the session answered a line that is too long
-pub long_handled : {D : Type 0} (answers : D → Entry → D → Type 0) (from to : Stand D) → to.desk ≡ from.desk → to.coming ≡ from.coming → to.owed ≡ from.owed ++ word_line word.LineTooLong
+pub long_handled : {D : Type 0} (answers : D → Entry → D → Type 0) (from to : Stand D) → to.desk ≡ from.desk → to.coming ≡ from.coming
+    → to.owed ≡ (from.owed ++ (if from.run.is_open then broken_answer_of from.run else [])) ++ word_line word.LineTooLong → to.run ≡ (if from.run.is_open then no_run else from.run)
     → HandlesUnit answers whole.line_too_long from to phase.LineTooLong
-long_handled answers from to desk coming owes = (answered answers from to whole.line_too_long word.LineTooLong refl desk coming owes, refl)
+long_handled answers from to desk coming owes run =
+    let told = broken_off_by answers (unit_facts whole.line_too_long) refl refl from to (word_line word.LineTooLong) (inr (inl (word.LineTooLong, refl, refl, refl))) desk coming owes run in
+    (told.0, refl, told.1)

@@ -117,8 +117,7 @@ CountsOnly end.WriteFault before after = SameReads before after × SameRefusals 
 CountsOnly end.NoMemory before after = SameReads before after × SameWrites before after
 CountsOnly other before after = SameReads before after × SameWrites before after × SameRefusals before after
 
--- whether an open group of units at the end is answered too (each unit is a group by itself as yet, so that this has no
--- effect)
+-- whether a run of piped commands that is open at the end is answered
 abbrev pub is_closed : End → Bool
 is_closed end.ReadFault = false
 is_closed end.LongInput = false

@@ -4,14 +4,18 @@ use Rattle.arc_core.specs.declared.replies.Reply.{Reply}
 use Rattle.arc_core.specs.Outside.{Outgoing, then_sent}
 use Rattle.arc_core.specs.ReplyText.{reply_text}
 use Rattle.reply_print.specs.Writing.{CountsStay, CountsFault, CountsRefusal, CountsAgain}
+use Rattle.pipe_session.specs.Runs.{Kept}
 use Rattle.pipe_session.specs.declared.owed.Unsent.{Unsent}
 use Rattle.pipe_session.specs.declared.owed.Unsent.TheVariants as unsent
 
--- The text that is owed, in order, and whether its end is a reply that has no room among the texts that wait: no further
--- text has room behind it.
+-- The text that is owed, in order; whether so much waits that something has to be sent before the next unit is handled;
+-- whether its end is a reply that has no room among the texts that wait, behind which no further text has room; and the run
+-- of piped commands that is open, whose answer is not owed yet.
 pub record Owing : Type 0 where
   pub text : List ℕ
   pub is_full : Bool
+  pub has_long : Bool
+  pub run : Kept
 
 -- the text of a reply from this offset on, where there is one
 abbrev pub rest_of : Option Reply → ℕ → List ℕ

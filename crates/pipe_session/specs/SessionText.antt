@@ -95,19 +95,22 @@ command_may_be_piped other = true
 -- whether a head is a piped command: one that may be piped, and its line ends with `pipe`
 abbrev pub head_is_piped : CollHead → Bool
 head_is_piped (coll_head.KeyValue head) = false
-head_is_piped (coll_head.Collection asked answer) = command_may_be_piped asked && coll_is_marked (coll_head.Collection asked answer)
+head_is_piped (coll_head.Collection asked answer) = coll_is_marked (coll_head.Collection asked answer) && command_may_be_piped asked
 
 -- the last of words of which this one is the first
 abbrev pub last_word : List ℕ → List (List ℕ) → List ℕ
 last_word word [] = word
 last_word word (next ∷ more) = last_word next more
 
+-- whether commands on collections begin with this word
+abbrev pub is_collection_word : List ℕ → Bool
+is_collection_word word =
+    bytes_eq word (codes "lop") || (bytes_eq word (codes "sop") || (bytes_eq word (codes "mop") || bytes_eq word (codes "bop")))
+
 -- whether a line's words have the form of a piped command: the first begins commands on collections, and the last is `pipe`
 abbrev pub have_piped_form : List (List ℕ) → Bool
 have_piped_form [] = false
-have_piped_form (first ∷ more) =
-    (bytes_eq first (codes "lop") || (bytes_eq first (codes "sop") || (bytes_eq first (codes "mop") || bytes_eq first (codes "bop"))))
-    && bytes_eq (last_word first more) (codes "pipe")
+have_piped_form (first ∷ more) = is_collection_word first && bytes_eq (last_word first more) (codes "pipe")
 
 -- whether a line is marked as piped: by its head, or where it spells none by its form
 abbrev pub line_is_marked : List ℕ → Bool

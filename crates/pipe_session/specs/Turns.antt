@@ -1,6 +1,6 @@
 -- What a session has done since it began, and what one turn adds.
-use Rattle.std.specs.Prelude.{◌≡◌, ◌⊎◌, ℕ, ◌<◌, Bool, true, false, List, [], ◌∷◌, ◌++◌, length, Option, Some, None}
-use Rattle.arc_core.specs.Outside.{Rose, first_then, sent_more}
+use Rattle.std.specs.Prelude.{◌≡◌, ◌⊎◌, ℕ, ◌<◌, ◌^◌, IfSome, Bool, true, false, List, [], ◌∷◌, ◌++◌, length, Option, Some, None}
+use Rattle.arc_core.specs.Outside.{Incoming, Rose, first_then, sent_more}
 use Rattle.arc_core.specs.Framing.{Whole, BeginsWith}
 use Rattle.arc_core.specs.CollectionLines.{coll_line_needs}
 use Rattle.arc_core.specs.History.{Entry}
@@ -16,16 +16,18 @@ use Rattle.pipe_session.specs.declared.phase.Phase.{Phase}
 use Rattle.pipe_session.specs.declared.phase.Phase.TheVariants as phase
 use Rattle.pipe_session.specs.Desks.{Serves, TicksThrough}
 use Rattle.pipe_session.specs.Outside.{Moment}
+use Rattle.pipe_session.specs.Runs.{Kept, TellsSoFar, no_run}
 use Rattle.pipe_session.specs.Ends.{Ends, CountsOnly, is_closed}
 use Rattle.pipe_session.specs.Units.{IsTooLong, NoneFinal, OnlyLastFinal, EndsWith, IsBetweenUnits, IsUnread}
 
--- How far a session is by itself: its reader, the bytes that it pulled and did not read yet, the text that it owes, how
--- many bytes it took, and its phase.
+-- How far a session is by itself: its reader, the bytes that it pulled and did not read yet, the text that it owes, the run
+-- of piped commands that is open, how many bytes it took, and its phase.
 pub record Standing : Type 0 where
   pub progress : Progress
   pub ahead : List ℕ
   pub owed : List ℕ
   pub is_full : Bool
+  pub run : Kept
   pub taken : ℕ
   pub phase : Phase
 
@@ -48,6 +50,7 @@ pub record StopsBehind (Last : Whole → Type 0) (at : Standing) (deeds : Deeds)
   pub ends : EndsWith Last deeds.units
   pub last : OnlyLastFinal deeds.units
   pub short : length at.ahead < 16384
+  pub no_run : at.run.is_open ≡ false
 
 -- The bytes that were taken are the spans of the units, what the reader has of the next one, and what was not read yet.
 pub record GoesOn (at : Standing) (deeds : Deeds) : Type 0 where
@@ -61,7 +64,23 @@ abbrev pub IsWithin : Phase → Standing → Deeds → Type 0
 IsWithin phase.Going at deeds = GoesOn at deeds
 IsWithin phase.Quit at deeds = StopsBehind IsQuitUnit at deeds
 IsWithin phase.LineTooLong at deeds = StopsBehind IsTooLong at deeds
+IsWithin phase.Ended at deeds = GoesOn at deeds × (at.ahead ≡ [])
 IsWithin phase.Over at deeds = ⊥
+
+-- The input has ended, where that is told, and fewer than 2^40 bytes were taken.
+pub record HasEnded (now : Incoming) (taken : List ℕ) : Type 0 where
+  pub nothing_left : IfSome now.left (λ bytes. bytes ≡ [])
+  pub short : length taken < 2 ^ 40
+
+-- So it is behind the end of the input.
+abbrev pub IsAtEnd : Phase → Incoming → List ℕ → Type 0
+IsAtEnd phase.Ended now taken = HasEnded now taken
+IsAtEnd other now taken = Unit {0}
+
+-- What the units tell by now: behind the end of the input all is answered, and else all but the run that is open.
+abbrev pub TellsNow : Phase → Kept → List Whole → List Entry → List ℕ → Type 0
+TellsNow phase.Ended run units entries text = Tells true units entries text
+TellsNow other run units entries text = TellsSoFar run units entries text
 
 -- SO FAR. Between the two moments a session that is so far has done this: it took the next bytes that were left; its
 -- units tell the requests that were executed and the text of the answers; these led the desk from the one state to the
@@ -71,7 +90,8 @@ pub record SoFar {D : Type 0} (answers : D → Entry → D → Type 0) (began no
   pub no_fault : now.outside.incoming.faults ≡ began.outside.incoming.faults
   pub number : length deeds.taken ≡ at.taken
   pub within : IsWithin at.phase at deeds
-  pub tells : Tells true deeds.units deeds.entries deeds.text
+  pub at_end : IsAtEnd at.phase now.outside.incoming deeds.taken
+  pub tells : TellsNow at.phase at.run deeds.units deeds.entries deeds.text
   pub served : Serves answers began.desk deeds.entries now.desk
   pub seconds : TicksThrough began.outside.coming deeds.entries now.outside.coming
   pub parts : deeds.text ≡ deeds.gone ++ at.owed
@@ -125,6 +145,7 @@ pub record IsFresh (at : Standing) : Type 0 where
   pub nothing_ahead : at.ahead ≡ []
   pub nothing_owed : at.owed ≡ []
   pub not_full : at.is_full ≡ false
+  pub not_in_run : at.run ≡ no_run
   pub nothing_taken : at.taken ≡ 0
   pub going : at.phase ≡ phase.Going
 
@@ -133,9 +154,10 @@ abbrev pub is_over : Phase → Bool
 is_over phase.Over = true
 is_over other = false
 
--- the reader is between two units while the session goes on
+-- the reader is between two units while the session goes on, and behind the end of the input
 abbrev pub IsReading : Phase → Progress → Type 0
 IsReading phase.Going progress = IsBetweenUnits progress
+IsReading phase.Ended progress = IsBetweenUnits progress
 IsReading other progress = Unit {0}
 
 -- so it is where no unit got whole, and behind a unit by the phase there

@@ -9,6 +9,8 @@ pub enum Phase {
     Quit,
     /// It has answered a line that is too long: it sends what it owes, and then it is over.
     LineTooLong,
+    /// The input has ended: it sends what it owes, and then it is over.
+    Ended,
     /// It is over.
     Over,
 }

@@ -49,6 +49,7 @@ impl Model for Session {
       ahead = s.piece;
       owed = s.owed.text;
       is_full = s.owed.is_full;
+      run = s.owed.run;
       taken = s.taken;
       phase = s.phase;
     } };
@@ -58,7 +59,7 @@ impl Model for Session {
 
 impl Session {
     /// A session that has done nothing. It takes memory for a line, a block of 131,072 bytes, a pull of 16,384 bytes and
-    /// as much text that waits. `NoMemory` comes for want of memory alone.
+    /// 51,200 bytes of text that waits, and 500 statuses. `NoMemory` comes for want of memory alone.
     pub fn new(alloc: Global) -> Result<Session, NoMemory>
         ensures { IfOk result IsFresh }
     {
@@ -207,6 +208,7 @@ impl Session {
         requires going { is_over self.old.phase ≡ false }
         requires read { self.old.phase ≡ phase.Going → self.old.ahead ≡ [] }
         requires sent { self.old.owed ≡ [] }
+        requires room { self.old.is_full ≡ false }
         ensures { (began : Moment D) (desk : D) (coming : Option (List ℕ)) (deeds : Deeds) → SoFar D.answers began
             (moment desk (outside (incoming (L.left link.old) (L.read_faults link.old))
             (outgoing (L.sent link.old) (L.write_faults link.old) (L.refusals link.old)) coming)) self.old deeds
@@ -219,6 +221,7 @@ impl Session {
             Phase::Going => self.pull::<D, L>(link),
             Phase::Quit => self.over(End::Quit),
             Phase::LineTooLong => self.over(End::LineTooLong),
+            Phase::Ended => self.over_at_end::<D>(),
             Phase::Over => unreachable!(),
         }
     }
@@ -228,6 +231,7 @@ impl Session {
         requires going { self.old.phase ≡ phase.Going }
         requires read { self.old.ahead ≡ [] }
         requires sent { self.old.owed ≡ [] }
+        requires room { self.old.is_full ≡ false }
         ensures { (began : Moment D) (desk : D) (coming : Option (List ℕ)) (deeds : Deeds) → SoFar D.answers began
             (moment desk (outside (incoming (L.left link.old) (L.read_faults link.old))
             (outgoing (L.sent link.old) (L.write_faults link.old) (L.refusals link.old)) coming)) self.old deeds
@@ -249,10 +253,41 @@ impl Session {
             Pull::Again => Turn::Again,
             Pull::Failed => self.over(End::ReadFault),
             Pull::End => {
-                let end = end_behind(self.frames.held());
-                self.over(end)
+                self.owed.break_run();
+                self.phase = Phase::Ended;
+                self.end::<D, L>(link)
             }
         }
+    }
+
+    // Sends all that is owed behind the end of the input, and is over.
+    fn end<D: Desk, L: Link>(&mut self, link: &mut L) -> Turn
+        requires ended { self.old.phase ≡ phase.Ended }
+        ensures { (began : Moment D) (desk : D) (coming : Option (List ℕ)) (deeds : Deeds) → SoFar D.answers began
+            (moment desk (outside (incoming (L.left link.old) (L.read_faults link.old))
+            (outgoing (L.sent link.old) (L.write_faults link.old) (L.refusals link.old)) coming)) self.old deeds
+            → LinkLeaves D.answers began
+            (moment desk (outside (incoming (L.left link.new) (L.read_faults link.new))
+            (outgoing (L.sent link.new) (L.write_faults link.new) (L.refusals link.new)) coming))
+            (L.agains link.old) (L.agains link.new) self.new deeds result }
+    {
+        match self.owed.send(link) {
+            Ok(()) => self.over_at_end::<D>(),
+            Err(unsent) => self.unsent(unsent),
+        }
+    }
+
+    // The session is over behind the end of the input. Nothing is owed.
+    fn over_at_end<D: Desk>(&mut self) -> Turn
+        requires ended { self.old.phase ≡ phase.Ended }
+        requires sent { self.old.owed ≡ [] }
+        ensures { (began : Moment D) (desk : D) (into : Incoming) (out : Outgoing) (coming : Option (List ℕ)) (agains agains' : ℕ) (deeds : Deeds)
+            → SoFar D.answers began (moment desk (outside into out coming)) self.old deeds
+            → LinkLeaves D.answers began (moment desk (outside into out coming)) agains agains' self.new deeds result }
+    {
+        reader_stands_for_a_unit();
+        let end = end_behind(self.frames.held());
+        self.over(end)
     }
 
     // What a turn answers that could not send, by the cause.

@@ -1,5 +1,5 @@
 //! Texts that wait, so that those of many units go out in one push.
-ghost use Rattle.std.specs.Prelude.{◌≡◌, ◌+◌, ◌-◌, ◌<◌, ◌≤◌, [], ◌++◌, length, drop, nat_le, if◌then◌else◌, MatchBool, codes, IfOk, vec_len, vec_capacity};
+ghost use Rattle.std.specs.Prelude.{◌≡◌, ◌+◌, ◌-◌, ◌<◌, ◌≤◌, [], ◌++◌, true, length, drop, nat_le, if◌then◌else◌, MatchBool, codes, IfOk, vec_len, vec_capacity};
 ghost use Rattle.std.specs.List.{flat_map};
 ghost use Rattle.arc_core.specs.ReplyText.{reply_text, row_text, elements_text, line_end};
 ghost use Rattle.reply_print.specs.Parts.{element_pieces};
@@ -77,7 +77,8 @@ impl Outbox {
     /// whether it has. Else nothing has changed: the text has fewer than 80 bytes less than there is room for, or more.
     /// Takes no memory.
     pub fn put(&mut self, reply: &Reply) -> bool
-        ensures { IsPut self.old self.new (reply_text reply.now) result }
+        ensures put { IsPut self.old self.new (reply_text reply.now) result }
+        ensures fits { result ≡ true → length self.new ≤ 16384 }
     {
         match reply {
             Reply::Word(word) => self.add(line_of(*word)),
@@ -122,7 +123,8 @@ impl Outbox {
 
     // Puts found items and the end of their answer last, all of it or nothing.
     fn put_rows(&mut self, rows: &[ValueRow]) -> bool
-        ensures { IsPut self.old self.new (flat_map row_text rows.now ++ codes "END" ++ line_end) result }
+        ensures put { IsPut self.old self.new (flat_map row_text rows.now ++ codes "END" ++ line_end) result }
+        ensures fits { result ≡ true → length self.new ≤ 16384 }
     {
         let before = self.bytes.len();
         if self.put_each(rows) && self.add(END) {
@@ -163,7 +165,8 @@ impl Outbox {
 
     // Puts elements and the lines around them last, all of it or nothing.
     fn put_elements(&mut self, flags: u32, rows: &[Row], tail: Tail) -> bool
-        ensures { IsPut self.old self.new (elements_text flags rows.now tail) result }
+        ensures put { IsPut self.old self.new (elements_text flags rows.now tail) result }
+        ensures fits { result ≡ true → length self.new ≤ 16384 }
     {
         let waited = self.bytes.len();
         if self.add(elements_line_of(flags, rows.len()).bytes())

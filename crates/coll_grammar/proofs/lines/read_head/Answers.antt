@@ -1,6 +1,6 @@
-use Rattle.std.proofs.Common.{◌∙◌, ap}
+use Rattle.std.proofs.Common.{◌∙◌, ap, Err}
 use Rattle.coll_grammar.specs.Reading.{answer_to}
-use Rattle.coll_grammar.proofs.HeadLemmas.{found, only, bad_format, only-where_read, bad_format-where_read, only-where_bad, is_unknown}
+use Rattle.coll_grammar.proofs.HeadLemmas.{found, only, bad_format, only-where_read, bad_format-where_read, only-where_bad, read-where_read, read-where_bad, is_unknown}
 use Rattle.coll_grammar.proofs.lines.read_head.Goals as goal
 
 pub returns-in-Ok-clause-only : goal.returns-in-Ok-clause-only
@@ -28,3 +28,10 @@ returns-in-Err-Unknown-clause-bad_format c =
     bad_format c.args.line.now c.read_words.result
     (is_unknown c.args.line.now c.in-Err-Unknown.field-0 c.in-Err-Unknown.field-0-is c.in-Err-Unknown.ensures.unknown.0)
     (c.read_words.ensures ∙ ap answer_to c.of.ensures)
+
+pub returns-in-Ok-clause-read : goal.returns-in-Ok-clause-read
+returns-in-Ok-clause-read c = read-where_read c.args.line.now c.in-Ok.head c.in-Ok.ensures.found
+
+pub returns-in-Err-BadFormat-clause-read : goal.returns-in-Err-BadFormat-clause-read
+returns-in-Err-BadFormat-clause-read c =
+    read-where_bad c.args.line.now (c.in-Err-BadFormat.ensures.bad_format.0 (ap Err c.in-Err-BadFormat.field-0-is))
