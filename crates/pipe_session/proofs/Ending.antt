@@ -306,7 +306,7 @@ module _ {D : Type 0} (answers : D → Entry → D → Type 0) (began : Moment D
         over_here : (ending : End) (into' : Incoming) → is_closed ending ≡ false → began.outside.incoming.left ≡ first_then deeds.taken into'.left
             → Ends ending began.outside (outside into' out coming) deeds.taken deeds.units goes.tail deeds.text → CountsOnly ending began.outside (outside into' out coming)
             → IsOver answers began (moment desk (outside into' out coming)) ending
-        over_here ending into' open took ends counts = record {
+        over_here ending into' running took ends counts = record {
           taken = deeds.taken;
           units = deeds.units;
           tail = goes.tail;
@@ -315,7 +315,7 @@ module _ {D : Type 0} (answers : D → Entry → D → Type 0) (began : Moment D
           took = took;
           spans = spans_here;
           last = only_of_none deeds.units goes.none_final;
-          tells = subst (λ b. Tells b deeds.units deeds.entries deeds.text) (sym open)
+          tells = subst (λ b. Tells b deeds.units deeds.entries deeds.text) (sym running)
               (told_so_far deeds.units deeds.entries deeds.text at.run (subst (λ p. TellsNow p at.run deeds.units deeds.entries deeds.text) going so.tells));
           served = so.served;
           seconds = so.seconds;

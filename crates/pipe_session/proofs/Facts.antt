@@ -15,8 +15,8 @@ use Rattle.pipe_session.specs.Handling.{Stand, Executed, ExecutesOne, Facts, IsT
 
 takes_as : (Status Status' : List Entry → PipeStatus → Type 0) → ((entries : List Entry) (told : PipeStatus) → Status entries told → Status' entries told)
     → (kept kept' : Kept) (entries : List Entry) → TakesOne Status kept kept' entries → TakesOne Status' kept kept' entries
-takes_as Status Status' as kept kept' entries (inl takes) = inl (takes.0, takes.1, as entries takes.1 takes.2, takes.3)
-takes_as Status Status' as kept kept' entries (inr over) = inr over
+takes_as Status Status' since kept kept' entries (inl takes) = inl (takes.0, takes.1, since entries takes.1 takes.2, takes.3)
+takes_as Status Status' since kept kept' entries (inr over) = inr over
 
 module _ {D : Type 0} (answers : D → Entry → D → Type 0) (facts facts' : Facts) (marked : facts'.marked ≡ facts.marked) (belongs : facts'.belongs ≡ facts.belongs)
     (as_status : (entries : List Entry) (told : PipeStatus) → facts.Status entries told → facts'.Status entries told)

@@ -15,15 +15,15 @@ use Rattle.pipe_session.specs.SessionText.{Group, alone, run, cut_off, HasStatus
 
 -- THE GROUPS OF ONE UNIT MORE
 
-open_on : (open units : List Whole) (unit : Whole) → open_behind open (units ++ unit ∷ []) ≡ opened (open_behind open units) unit
-open_on open [] unit = refl
-open_on open (first ∷ units) unit = open_on (opened open first) units unit
+open_on : (running units : List Whole) (unit : Whole) → open_behind running (units ++ unit ∷ []) ≡ opened (open_behind running units) unit
+open_on running [] unit = refl
+open_on running (first ∷ units) unit = open_on (opened running first) units unit
 
-groups_on : (open units : List Whole) (unit : Whole) → groups_before open (units ++ unit ∷ []) ≡ groups_before open units ++ ended_by (open_behind open units) unit
-groups_on open [] unit = append-nil (ended_by open unit)
-groups_on open (first ∷ units) unit =
-    ap (λ g. ended_by open first ++ g) (groups_on (opened open first) units unit)
-    ∙ sym (append_assoc (ended_by open first) (groups_before (opened open first) units) (ended_by (open_behind (opened open first) units) unit))
+groups_on : (running units : List Whole) (unit : Whole) → groups_before running (units ++ unit ∷ []) ≡ groups_before running units ++ ended_by (open_behind running units) unit
+groups_on running [] unit = append-nil (ended_by running unit)
+groups_on running (first ∷ units) unit =
+    ap (λ g. ended_by running first ++ g) (groups_on (opened running first) units unit)
+    ∙ sym (append_assoc (ended_by running first) (groups_before (opened running first) units) (ended_by (open_behind (opened running first) units) unit))
 
 -- groups behind others
 tells_more : (groups more : List Group) (entries own : List Entry) (text said : List ℕ) → TellsGroups groups entries text → TellsGroups more own said
@@ -133,117 +133,117 @@ broken_by false true = refl
 broken_by false false = refl
 
 -- the run that is open is 500 units long at most where it goes on
-module _ (open : List Whole) (unit : Whole) (own entries : List Entry) (kept : Kept) (have : HaveStatuses (take 500 open) own kept.statuses)
-    (why : kept.fault ≡ fault_of kept.statuses (length open) true) where
-  one_more : length (open ++ unit ∷ []) ≡ length open + 1
-  one_more = length-append open (unit ∷ [])
+module _ (running : List Whole) (unit : Whole) (own entries : List Entry) (kept : Kept) (have : HaveStatuses (take 500 running) own kept.statuses)
+    (why : kept.fault ≡ fault_of kept.statuses (length running) true) where
+  one_more : length (running ++ unit ∷ []) ≡ length running + 1
+  one_more = length-append running (unit ∷ [])
 
   -- what is kept where the unit had a status
   taken : takes_one kept ≡ true → (s : PipeStatus) → HasStatus unit entries s
-      → HaveStatuses (take 500 (open ++ unit ∷ [])) (own ++ entries) (kept.statuses ++ s ∷ [])
-      × ((if fails s then fault.BadError else fault.Nothing) ≡ fault_of (kept.statuses ++ s ∷ []) (length (open ++ unit ∷ [])) true)
+      → HaveStatuses (take 500 (running ++ unit ∷ [])) (own ++ entries) (kept.statuses ++ s ∷ [])
+      × ((if fails s then fault.BadError else fault.Nothing) ≡ fault_of (kept.statuses ++ s ∷ []) (length (running ++ unit ∷ [])) true)
   taken takes s has = (
-    subst (λ us. HaveStatuses us (own ++ entries) (kept.statuses ++ s ∷ [])) (sym (take_all 500 (open ++ unit ∷ []) (omega (arith, one_more, short))))
-        (have_on open unit own entries kept.statuses s had none has),
-    sym (ap (λ b. fault_by b (nat_lt 500 (length (open ++ unit ∷ []))) true) (same_fails kept.statuses s none)
-    ∙ ap (λ b. fault_by (fails s) b true) (le-ltb 500 (length (open ++ unit ∷ [])) (omega (arith, one_more, short)))),
+    subst (λ us. HaveStatuses us (own ++ entries) (kept.statuses ++ s ∷ [])) (sym (take_all 500 (running ++ unit ∷ []) (omega (arith, one_more, short))))
+        (have_on running unit own entries kept.statuses s had none has),
+    sym (ap (λ b. fault_by b (nat_lt 500 (length (running ++ unit ∷ []))) true) (same_fails kept.statuses s none)
+        ∙ ap (λ b. fault_by (fails s) b true) (le-ltb 500 (length (running ++ unit ∷ [])) (omega (arith, one_more, short)))),
   )
     where
       parts : (is_fine kept.fault ≡ true) × (nat_lt (length kept.statuses) 500 ≡ true)
       parts = and_parts (is_fine kept.fault) (nat_lt (length kept.statuses) 500) takes
 
-      fine : (list_any fails kept.statuses ≡ false) × (nat_lt 500 (length open) ≡ false)
-      fine = fine_by (list_any fails kept.statuses) (nat_lt 500 (length open)) (sym (ap is_fine why) ∙ parts.0)
+      fine : (list_any fails kept.statuses ≡ false) × (nat_lt 500 (length running) ≡ false)
+      fine = fine_by (list_any fails kept.statuses) (nat_lt 500 (length running)) (sym (ap is_fine why) ∙ parts.0)
 
       none : list_any fails kept.statuses ≡ false
       none = fine.0
 
-      had : HaveStatuses open own kept.statuses
-      had = subst (λ us. HaveStatuses us own kept.statuses) (take_all 500 open (ltb-false 500 (length open) fine.1)) have
+      had : HaveStatuses running own kept.statuses
+      had = subst (λ us. HaveStatuses us own kept.statuses) (take_all 500 running (ltb-false 500 (length running) fine.1)) have
 
-      short : length open < 500
-      short = omega (arith, as_many open own kept.statuses had none, ltb-true (length kept.statuses) 500 parts.1)
+      short : length running < 500
+      short = omega (arith, as_many running own kept.statuses had none, ltb-true (length kept.statuses) 500 parts.1)
 
   -- what is kept where it was passed over
   passed : takes_one kept ≡ false
-      → HaveStatuses (take 500 (open ++ unit ∷ [])) own kept.statuses
-      × ((if is_fine kept.fault then fault.Overflow else kept.fault) ≡ fault_of kept.statuses (length (open ++ unit ∷ [])) true)
+      → HaveStatuses (take 500 (running ++ unit ∷ [])) own kept.statuses
+      × ((if is_fine kept.fault then fault.Overflow else kept.fault) ≡ fault_of kept.statuses (length (running ++ unit ∷ [])) true)
   passed left_out = by_fault (is_fine kept.fault) refl
     where
-      full : 500 ≤ length open → take 500 (open ++ unit ∷ []) ≡ take 500 open
-      full long = take-append-le 500 open (unit ∷ []) long
+      full : 500 ≤ length running → take 500 (running ++ unit ∷ []) ≡ take 500 running
+      full long = take-append-le 500 running (unit ∷ []) long
 
-      many : 500 ≤ length open → nat_lt 500 (length (open ++ unit ∷ [])) ≡ true
-      many long = lt-ltb 500 (length (open ++ unit ∷ [])) (omega (arith, one_more, long))
+      many : 500 ≤ length running → nat_lt 500 (length (running ++ unit ∷ [])) ≡ true
+      many long = lt-ltb 500 (length (running ++ unit ∷ [])) (omega (arith, one_more, long))
 
       -- where one fails nothing changes
-      stay : list_any fails kept.statuses ≡ true → (length open < 500) ⊎ (500 ≤ length open) → HaveStatuses (take 500 (open ++ unit ∷ [])) own kept.statuses
+      stay : list_any fails kept.statuses ≡ true → (length running < 500) ⊎ (500 ≤ length running) → HaveStatuses (take 500 (running ++ unit ∷ [])) own kept.statuses
       stay failed (inl less) =
-          subst (λ us. HaveStatuses us own kept.statuses) (sym (take_all 500 (open ++ unit ∷ []) (omega (arith, one_more, less))))
-          (have_more open (unit ∷ []) own kept.statuses (subst (λ us. HaveStatuses us own kept.statuses) (take_all 500 open (omega (arith, less))) have) failed)
+          subst (λ us. HaveStatuses us own kept.statuses) (sym (take_all 500 (running ++ unit ∷ []) (omega (arith, one_more, less))))
+          (have_more running (unit ∷ []) own kept.statuses (subst (λ us. HaveStatuses us own kept.statuses) (take_all 500 running (omega (arith, less))) have) failed)
       stay failed (inr long) = subst (λ us. HaveStatuses us own kept.statuses) (sym (full long)) have
 
       -- the run is broken off already
-      wrong : (list_any fails kept.statuses ≡ true) ⊎ ((list_any fails kept.statuses ≡ false) × (nat_lt 500 (length open) ≡ true))
-          → HaveStatuses (take 500 (open ++ unit ∷ [])) own kept.statuses × (kept.fault ≡ fault_of kept.statuses (length (open ++ unit ∷ [])) true)
+      wrong : (list_any fails kept.statuses ≡ true) ⊎ ((list_any fails kept.statuses ≡ false) × (nat_lt 500 (length running) ≡ true))
+          → HaveStatuses (take 500 (running ++ unit ∷ [])) own kept.statuses × (kept.fault ≡ fault_of kept.statuses (length (running ++ unit ∷ [])) true)
       wrong (inl failed) = (
-        stay failed (cases_lt (length open) 500),
-        why ∙ ap (λ b. fault_by b (nat_lt 500 (length open)) true) failed ∙ sym (ap (λ b. fault_by b (nat_lt 500 (length (open ++ unit ∷ []))) true) failed),
+        stay failed (cases_lt (length running) 500),
+        why ∙ ap (λ b. fault_by b (nat_lt 500 (length running)) true) failed ∙ sym (ap (λ b. fault_by b (nat_lt 500 (length (running ++ unit ∷ []))) true) failed),
       )
       wrong (inr over) =
-          let long : 500 ≤ length open = omega (arith, ltb-true 500 (length open) over.1) in (
+          let long : 500 ≤ length running = omega (arith, ltb-true 500 (length running) over.1) in (
             subst (λ us. HaveStatuses us own kept.statuses) (sym (full long)) have,
-            why ∙ ap (λ b. fault_by b (nat_lt 500 (length open)) true) over.0 ∙ ap (λ b. fault_by false b true) (over.1 ∙ sym (many long))
-            ∙ sym (ap (λ b. fault_by b (nat_lt 500 (length (open ++ unit ∷ []))) true) over.0),
+            why ∙ ap (λ b. fault_by b (nat_lt 500 (length running)) true) over.0 ∙ ap (λ b. fault_by false b true) (over.1 ∙ sym (many long))
+                ∙ sym (ap (λ b. fault_by b (nat_lt 500 (length (running ++ unit ∷ []))) true) over.0),
           )
 
       by_fault : (fine : Bool) → is_fine kept.fault ≡ fine
-          → HaveStatuses (take 500 (open ++ unit ∷ [])) own kept.statuses
-          × ((if is_fine kept.fault then fault.Overflow else kept.fault) ≡ fault_of kept.statuses (length (open ++ unit ∷ [])) true)
+          → HaveStatuses (take 500 (running ++ unit ∷ [])) own kept.statuses
+          × ((if is_fine kept.fault then fault.Overflow else kept.fault) ≡ fault_of kept.statuses (length (running ++ unit ∷ [])) true)
       by_fault false is =
-          let both = wrong (wrong_by (list_any fails kept.statuses) (nat_lt 500 (length open)) (sym (ap is_fine why) ∙ is)) in
+          let both = wrong (wrong_by (list_any fails kept.statuses) (nat_lt 500 (length running)) (sym (ap is_fine why) ∙ is)) in
           (both.0, ap (λ b. if b then fault.Overflow else kept.fault) is ∙ both.1)
       by_fault true is =
-          let fine = fine_by (list_any fails kept.statuses) (nat_lt 500 (length open)) (sym (ap is_fine why) ∙ is) in
-          let had : HaveStatuses open own kept.statuses = subst (λ us. HaveStatuses us own kept.statuses) (take_all 500 open (ltb-false 500 (length open) fine.1)) have in
+          let fine = fine_by (list_any fails kept.statuses) (nat_lt 500 (length running)) (sym (ap is_fine why) ∙ is) in
+          let had : HaveStatuses running own kept.statuses = subst (λ us. HaveStatuses us own kept.statuses) (take_all 500 running (ltb-false 500 (length running) fine.1)) have in
           let no_room : nat_lt (length kept.statuses) 500 ≡ false = sym (ap (λ b. b && nat_lt (length kept.statuses) 500) is) ∙ left_out in
-          let long : 500 ≤ length open = omega (arith, as_many open own kept.statuses had fine.0, ltb-false (length kept.statuses) 500 no_room) in (
+          let long : 500 ≤ length running = omega (arith, as_many running own kept.statuses had fine.0, ltb-false (length kept.statuses) 500 no_room) in (
             subst (λ us. HaveStatuses us own kept.statuses) (sym (full long)) have,
             ap (λ b. if b then fault.Overflow else kept.fault) is
-            ∙ sym (ap (λ b. fault_by b (nat_lt 500 (length (open ++ unit ∷ []))) true) fine.0 ∙ ap (λ b. fault_by false b true) (many long)),
+                ∙ sym (ap (λ b. fault_by b (nat_lt 500 (length (running ++ unit ∷ []))) true) fine.0 ∙ ap (λ b. fault_by false b true) (many long)),
           )
 
   -- either of them
   pub takes_on : (kept' : Kept) → TakesOne (HasStatus unit) kept kept' entries
-      → (kept'.is_open ≡ true) × HaveStatuses (take 500 (open ++ unit ∷ [])) (own ++ entries) kept'.statuses
-      × (kept'.fault ≡ fault_of kept'.statuses (length (open ++ unit ∷ [])) true)
+      → (kept'.is_open ≡ true) × HaveStatuses (take 500 (running ++ unit ∷ [])) (own ++ entries) kept'.statuses
+      × (kept'.fault ≡ fault_of kept'.statuses (length (running ++ unit ∷ [])) true)
   takes_on kept' (inl takes) =
       let both = taken takes.0 takes.1 takes.2 in
       rw takes.3 (refl, both.0, both.1)
   takes_on kept' (inr over) =
       let both = passed over.0 in
-      rw (over.2, over.1) (refl, subst (λ e. HaveStatuses (take 500 (open ++ unit ∷ [])) e kept.statuses) (sym (append-nil own)) both.0, both.1)
+      rw (over.2, over.1) (refl, subst (λ e. HaveStatuses (take 500 (running ++ unit ∷ [])) e kept.statuses) (sym (append-nil own)) both.0, both.1)
 
 -- what is kept of the run, and of the run with one unit more
-keeps_parts : (open : List Whole) (own : List Entry) (kept : Kept) → KeepsRun kept open own
-    → HaveStatuses (take 500 open) own kept.statuses × (kept.fault ≡ fault_of kept.statuses (length open) true)
+keeps_parts : (running : List Whole) (own : List Entry) (kept : Kept) → KeepsRun kept running own
+    → HaveStatuses (take 500 running) own kept.statuses × (kept.fault ≡ fault_of kept.statuses (length running) true)
 keeps_parts [] own kept keeps = rw (keeps.0, keeps.1) ((refl, refl), refl)
 keeps_parts (first ∷ more) own kept keeps = (keeps.1, keeps.2)
 
-keeps_from : (open : List Whole) (unit : Whole) (own : List Entry) (kept : Kept)
-    → (kept.is_open ≡ true) × HaveStatuses (take 500 (open ++ unit ∷ [])) own kept.statuses × (kept.fault ≡ fault_of kept.statuses (length (open ++ unit ∷ [])) true)
-    → KeepsRun kept (open ++ unit ∷ []) own
+keeps_from : (running : List Whole) (unit : Whole) (own : List Entry) (kept : Kept)
+    → (kept.is_open ≡ true) × HaveStatuses (take 500 (running ++ unit ∷ [])) own kept.statuses × (kept.fault ≡ fault_of kept.statuses (length (running ++ unit ∷ [])) true)
+    → KeepsRun kept (running ++ unit ∷ []) own
 keeps_from [] unit own kept is = is
 keeps_from (first ∷ more) unit own kept is = is
 
-keeps_on : (open : List Whole) (unit : Whole) (own entries : List Entry) (kept kept' : Kept) → KeepsRun kept open own → TakesOne (HasStatus unit) kept kept' entries
-    → KeepsRun kept' (open ++ unit ∷ []) (own ++ entries)
-keeps_on open unit own entries kept kept' keeps takes =
-    let parts = keeps_parts open own kept keeps in
-    keeps_from open unit (own ++ entries) kept' (takes_on open unit own entries kept parts.0 parts.1 kept' takes)
+keeps_on : (running : List Whole) (unit : Whole) (own entries : List Entry) (kept kept' : Kept) → KeepsRun kept running own → TakesOne (HasStatus unit) kept kept' entries
+    → KeepsRun kept' (running ++ unit ∷ []) (own ++ entries)
+keeps_on running unit own entries kept kept' keeps takes =
+    let parts = keeps_parts running own kept keeps in
+    keeps_from running unit (own ++ entries) kept' (takes_on running unit own entries kept parts.0 parts.1 kept' takes)
 
 -- whether a run is open
-is_open_of : (open : List Whole) (own : List Entry) (kept : Kept) → KeepsRun kept open own → kept.is_open ≡ false → (open ≡ []) × (own ≡ []) × (kept ≡ no_run)
+is_open_of : (running : List Whole) (own : List Entry) (kept : Kept) → KeepsRun kept running own → kept.is_open ≡ false → (running ≡ []) × (own ≡ []) × (kept ≡ no_run)
 is_open_of [] own kept keeps closed = (refl, keeps.1, keeps.0)
 is_open_of (first ∷ more) own kept keeps closed =
     let e : true ≡ false = sym keeps.0 ∙ closed in
@@ -255,12 +255,12 @@ is_open_of (first ∷ more) own kept keeps closed =
 pub goes_on_in_run : (units : List Whole) (unit : Whole) (entries own : List Entry) (text : List ℕ) (kept kept' : Kept) → TellsSoFar kept units entries text → is_marked unit ≡ true
     → TakesOne (HasStatus unit) kept kept' own → TellsSoFar kept' (units ++ unit ∷ []) (entries ++ own) text
 goes_on_in_run units unit entries own text kept kept' so marked takes =
-    let open = open_behind [] units in (
+    let running = open_behind [] units in (
       so.0,
       so.1 ++ own,
       ap (λ e. e ++ own) so.2 ∙ append_assoc so.0 so.1 own,
-      subst (λ g. TellsGroups g so.0 text) (sym (groups_on [] units unit ∙ ap (λ b. groups_before [] units ++ (if b then [] else ended_unmarked open unit)) marked ∙ append-nil (groups_before [] units))) so.3,
-      subst (λ o. KeepsRun kept' o (so.1 ++ own)) (sym (open_on [] units unit ∙ ap (λ b. if b then open ++ unit ∷ [] else []) marked)) (keeps_on open unit so.1 own kept kept' so.4 takes),
+      subst (λ g. TellsGroups g so.0 text) (sym (groups_on [] units unit ∙ ap (λ b. groups_before [] units ++ (if b then [] else ended_unmarked running unit)) marked ∙ append-nil (groups_before [] units))) so.3,
+      subst (λ o. KeepsRun kept' o (so.1 ++ own)) (sym (open_on [] units unit ∙ ap (λ b. if b then running ++ unit ∷ [] else []) marked)) (keeps_on running unit so.1 own kept kept' so.4 takes),
     )
 
 -- no run is open behind the unit, which ends these groups
@@ -287,8 +287,8 @@ stands_alone units unit entries own text said kept kept' so unmarked closed told
     (ap (λ e. e ++ own) (so.2 ∙ ap (λ e. so.0 ++ e) none.1 ∙ append-nil so.0)) so.3
 
 -- the unit is the last one of the run
-ends_by : (open : List Whole) (unit : Whole) (own entries : List Entry) (kept last : Kept) → KeepsRun kept open own → kept.is_open ≡ true → belongs unit ≡ true
-    → TakesOne (HasStatus unit) kept last entries → (groups : List Group) × (ended_unmarked open unit ≡ groups) × TellsGroups groups (own ++ entries) (answer_of last)
+ends_by : (running : List Whole) (unit : Whole) (own entries : List Entry) (kept last : Kept) → KeepsRun kept running own → kept.is_open ≡ true → belongs unit ≡ true
+    → TakesOne (HasStatus unit) kept last entries → (groups : List Group) × (ended_unmarked running unit ≡ groups) × TellsGroups groups (own ++ entries) (answer_of last)
 ends_by [] unit own entries kept last keeps is_open joins takes =
     let e : false ≡ true = sym (ap (λ (k : Kept). k.is_open) keeps.0) ∙ is_open in
     absurd cc
@@ -317,8 +317,8 @@ broken first more own kept keeps = (
 )
 
 -- the unit breaks the run off
-breaks_by : (open : List Whole) (unit : Whole) (own entries : List Entry) (said : List ℕ) (kept : Kept) → KeepsRun kept open own → kept.is_open ≡ true → belongs unit ≡ false
-    → TellsUnit unit entries said → (groups : List Group) × (ended_unmarked open unit ≡ groups) × TellsGroups groups (own ++ entries) (broken_answer_of kept ++ said)
+breaks_by : (running : List Whole) (unit : Whole) (own entries : List Entry) (said : List ℕ) (kept : Kept) → KeepsRun kept running own → kept.is_open ≡ true → belongs unit ≡ false
+    → TellsUnit unit entries said → (groups : List Group) × (ended_unmarked running unit ≡ groups) × TellsGroups groups (own ++ entries) (broken_answer_of kept ++ said)
 breaks_by [] unit own entries said kept keeps is_open stays told =
     let e : false ≡ true = sym (ap (λ (k : Kept). k.is_open) keeps.0) ∙ is_open in
     absurd cc
@@ -339,9 +339,9 @@ breaks_run units unit entries own text said kept kept' so unmarked is_open stays
 -- AT THE END
 
 -- where no run is open all is told
-closed_by : (closed : Bool) (open : List Whole) (own : List Entry) (kept : Kept) → KeepsRun kept open own → kept.is_open ≡ false → TellsGroups (at_end closed open) own []
-closed_by closed open own kept keeps none =
-    let is = is_open_of open own kept keeps none in
+closed_by : (closed : Bool) (running : List Whole) (own : List Entry) (kept : Kept) → KeepsRun kept running own → kept.is_open ≡ false → TellsGroups (at_end closed running) own []
+closed_by closed running own kept keeps none =
+    let is = is_open_of running own kept keeps none in
     rw (is.0, is.1) (refl, refl)
 
 pub all_told : (closed : Bool) (units : List Whole) (entries : List Entry) (text : List ℕ) (kept : Kept) → TellsSoFar kept units entries text → kept.is_open ≡ false → Tells closed units entries text
@@ -349,7 +349,7 @@ all_told closed units entries text kept so none =
     rw (so.2, sym (append-nil text)) (tells_more (groups_before [] units) (at_end closed (open_behind [] units)) so.0 so.1 text [] so.3 (closed_by closed (open_behind [] units) so.1 kept so.4 none))
 
 -- a run that is open is not answered
-cut_by : (open : List Whole) (own : List Entry) (kept : Kept) → KeepsRun kept open own → TellsGroups (at_end false open) own []
+cut_by : (running : List Whole) (own : List Entry) (kept : Kept) → KeepsRun kept running own → TellsGroups (at_end false running) own []
 cut_by [] own kept keeps = (keeps.1, refl)
 cut_by (first ∷ more) own kept keeps = tells_one (cut_off (first ∷ more)) own [] (kept.statuses, keeps.1, refl)
 
@@ -361,7 +361,7 @@ told_so_far units entries text kept so =
 abbrev pub owed_answer : Kept → List ℕ
 owed_answer kept = if kept.is_open then broken_answer_of kept else []
 
-answered_by : (open : List Whole) (own : List Entry) (kept : Kept) → KeepsRun kept open own → TellsGroups (at_end true open) own (owed_answer kept)
+answered_by : (running : List Whole) (own : List Entry) (kept : Kept) → KeepsRun kept running own → TellsGroups (at_end true running) own (owed_answer kept)
 answered_by [] own kept keeps = rw (keeps.0, keeps.1) (refl, refl)
 answered_by (first ∷ more) own kept keeps =
     rw keeps.0 (tells_one (run (first ∷ more) None) own (broken_answer_of kept) (broken first more own kept keeps))

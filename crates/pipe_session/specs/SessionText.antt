@@ -166,7 +166,7 @@ pub data Group : Type 0 where
 
 -- the run that is open behind a unit, by the one before it: a marked unit opens a run or goes on with it
 abbrev pub opened : List Whole → Whole → List Whole
-opened open unit = if is_marked unit then open ++ unit ∷ [] else []
+opened running unit = if is_marked unit then running ++ unit ∷ [] else []
 
 -- the groups that a unit ends which is not marked, by the run that is open before it
 abbrev pub ended_unmarked : List Whole → Whole → List Group
@@ -175,16 +175,16 @@ ended_unmarked (first ∷ more) unit = if belongs unit then run (first ∷ more)
 
 -- the groups that a unit ends
 abbrev pub ended_by : List Whole → Whole → List Group
-ended_by open unit = if is_marked unit then [] else ended_unmarked open unit
+ended_by running unit = if is_marked unit then [] else ended_unmarked running unit
 
 -- the run that is open behind units, and the groups that they end, by the run before them
 abbrev pub open_behind : List Whole → List Whole → List Whole
-open_behind open [] = open
-open_behind open (unit ∷ units) = open_behind (opened open unit) units
+open_behind running [] = running
+open_behind running (unit ∷ units) = open_behind (opened running unit) units
 
 abbrev pub groups_before : List Whole → List Whole → List Group
-groups_before open [] = []
-groups_before open (unit ∷ units) = ended_by open unit ++ groups_before (opened open unit) units
+groups_before running [] = []
+groups_before running (unit ∷ units) = ended_by running unit ++ groups_before (opened running unit) units
 
 -- the group of a run that is open at the end. `closed` says that it is answered
 abbrev pub at_end : Bool → List Whole → List Group

@@ -13,6 +13,7 @@ use Rattle.arc_core.specs.declared.pipes.PipeFault.TheVariants as fault
 use Rattle.arc_core.specs.declared.replies.Word.{Word}
 use Rattle.arc_core.specs.declared.replies.Word.TheVariants as word
 use Rattle.arc_core.specs.ReplyText.{word_line, line_end}
+use Rattle.reply_print.specs.Parts.{run_line}
 use Rattle.reply_print.specs.PipeText.{status_text, fault_text, pipe_text, fails_run}
 use Rattle.reply_print.proofs.Pieces.{next_text, texts_more, room_for_text}
 
@@ -69,6 +70,10 @@ answer_fits ss f few =
     let lines = statuses_long ss in
     let end = fault_long f in
     simp length-append (omega arith)
+
+-- how long its three parts are
+pub three_parts : (ss : List PipeStatus) (f : PipeFault) → length (pipe_text ss f) ≡ length (run_line (length ss)) + length (flat_map status_text ss) + length (fault_text f ++ line_end)
+three_parts ss f = simp length-append (omega arith)
 
 -- the lines of the statuses before one, with its own
 pub status_more : (ss : List PipeStatus) (i : ℕ) (d : PipeStatus) → i < length ss
