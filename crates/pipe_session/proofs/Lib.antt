@@ -6,3 +6,4 @@ pub mod Telling
 pub mod Fronts
 pub mod Going
 pub mod Ending
+pub mod StepWords
