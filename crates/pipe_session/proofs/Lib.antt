@@ -10,3 +10,4 @@ pub mod Fronts
 pub mod ToldMore
 pub mod Going
 pub mod Ending
+pub mod StepWords

@@ -5,6 +5,7 @@ pub mod Units
 pub mod Outside
 pub mod Runs
 pub mod SessionText
+pub mod WorkedRuns
 pub mod Ends
 pub mod Turns
 pub mod Handling
