@@ -28,8 +28,8 @@ groups_on running (first ∷ units) unit =
 -- groups behind others
 tells_more : (groups more : List Group) (entries own : List Entry) (text said : List ℕ) → TellsGroups groups entries text → TellsGroups more own said
     → TellsGroups (groups ++ more) (entries ++ own) (text ++ said)
-tells_more [] more entries own text said is then = rw (is.0, is.1) then
-tells_more (group ∷ groups) more entries own text said is then = (
+tells_more [] more entries own text said is next = rw (is.0, is.1) next
+tells_more (group ∷ groups) more entries own text said is next = (
   is.0,
   is.1 ++ own,
   is.2,
@@ -37,7 +37,7 @@ tells_more (group ∷ groups) more entries own text said is then = (
   ap (λ e. e ++ own) is.4 ∙ append_assoc is.0 is.1 own,
   ap (λ t. t ++ said) is.5 ∙ append_assoc is.2 is.3 said,
   is.6,
-  tells_more groups more is.1 own is.3 said is.7 then,
+  tells_more groups more is.1 own is.3 said is.7 next,
 )
 
 tells_one : (group : Group) (entries : List Entry) (text : List ℕ) → TellsGroup group entries text → TellsGroups (group ∷ []) entries text
@@ -45,7 +45,7 @@ tells_one group entries text is = (entries, [], text, [], sym (append-nil entrie
 
 tells_two : (group other : Group) (entries own : List Entry) (text said : List ℕ) → TellsGroup group entries text → TellsGroup other own said
     → TellsGroups (group ∷ other ∷ []) (entries ++ own) (text ++ said)
-tells_two group other entries own text said is then = (entries, own, text, said, refl, refl, is, tells_one other own said then)
+tells_two group other entries own text said is next = (entries, own, text, said, refl, refl, is, tells_one other own said next)
 
 -- THE STATUSES OF ONE UNIT MORE
 
@@ -60,56 +60,71 @@ both_false : (a b : Bool) → (a || b) ≡ false → (a ≡ false) × (b ≡ fal
 both_false true b h = cc
 both_false false b h = (refl, h)
 
+-- where none fails, the first one does not, and none of the others
+fine_parts : (ss : List PipeStatus) (s : PipeStatus) (rest : List PipeStatus) → ss ≡ s ∷ rest → list_any fails ss ≡ false → (fails s ≡ false) × (list_any fails rest ≡ false)
+fine_parts ss s rest is none = both_false (fails s) (list_any fails rest) (sym (ap (list_any fails) is) ∙ none)
+
+-- what stands behind the first status
+abbrev Goes : List Whole → List Entry → PipeStatus → List PipeStatus → Type 0
+Goes units others told rest =
+    ((fails told ≡ true) × (others ≡ []) × (rest ≡ [])) ⊎ ((fails told ≡ false) × HaveStatuses units others rest)
+
+-- it goes on where the first one is fine
+goes_on : (units : List Whole) (others : List Entry) (told : PipeStatus) (rest : List PipeStatus) → Goes units others told rest → fails told ≡ false → HaveStatuses units others rest
+goes_on units others told rest (inl failed) fine =
+    let e : true ≡ false = sym failed.0 ∙ fine in
+    absurd cc
+goes_on units others told rest (inr on) fine = on.1
+
 -- where none fails each unit has a status
 as_many : (units : List Whole) (entries : List Entry) (ss : List PipeStatus) → HaveStatuses units entries ss → list_any fails ss ≡ false → length ss ≡ length units
 as_many [] entries ss is none = ap length is.1
-as_many (unit ∷ units) entries ss is none = goes_on is.7
-  where
-    either : (fails is.2 ≡ false) × (list_any fails is.3 ≡ false)
-    either = both_false (fails is.2) (list_any fails is.3) (sym (ap (list_any fails) is.5) ∙ none)
+as_many (unit ∷ units) entries ss is none =
+    let fine = fine_parts ss is.2 is.3 is.5 none in
+    ap length is.5 ∙ ap suc (as_many units is.1 is.3 (goes_on units is.1 is.2 is.3 is.7 fine.0) fine.1)
 
-    goes_on : ((fails is.2 ≡ true) × (is.1 ≡ []) × (is.3 ≡ [])) ⊎ ((fails is.2 ≡ false) × HaveStatuses units is.1 is.3) → length ss ≡ suc (length units)
-    goes_on (inl failed) =
-        let e : true ≡ false = sym failed.0 ∙ either.0 in
-        absurd cc
-    goes_on (inr fine) = ap length is.5 ∙ ap suc (as_many units is.1 is.3 fine.1 either.1)
+-- the last status
+last_goes : (s : PipeStatus) (b : Bool) → fails s ≡ b → Goes [] [] s []
+last_goes s true e = inl (e, refl, refl)
+last_goes s false e = inr (e, (refl, refl))
 
 -- one more has its status where none fails
 have_on : (units : List Whole) (unit : Whole) (entries own : List Entry) (ss : List PipeStatus) (s : PipeStatus) → HaveStatuses units entries ss → list_any fails ss ≡ false
     → HasStatus unit own s → HaveStatuses (units ++ unit ∷ []) (entries ++ own) (ss ++ s ∷ [])
-have_on [] unit entries own ss s is none has =
-    rw (is.0, is.1) (own, [], s, [], sym (append-nil own), refl, has, last (fails s) refl)
-  where
-    last : (b : Bool) → fails s ≡ b → ((fails s ≡ true) × ([] ≡ []) × ([] ≡ [])) ⊎ ((fails s ≡ false) × HaveStatuses [] [] [])
-    last true e = inl (e, refl, refl)
-    last false e = inr (e, (refl, refl))
+have_on [] unit entries own ss s is none has = rw (is.0, is.1) (own, [], s, [], sym (append-nil own), refl, has, last_goes s (fails s) refl)
 have_on (first ∷ units) unit entries own ss s is none has =
-    (is.0, is.1 ++ own, is.2, is.3 ++ s ∷ [], ap (λ e. e ++ own) is.4 ∙ append_assoc is.0 is.1 own, ap (λ t. t ++ s ∷ []) is.5, is.6, goes_on is.7)
-  where
-    either : (fails is.2 ≡ false) × (list_any fails is.3 ≡ false)
-    either = both_false (fails is.2) (list_any fails is.3) (sym (ap (list_any fails) is.5) ∙ none)
-
-    goes_on : ((fails is.2 ≡ true) × (is.1 ≡ []) × (is.3 ≡ [])) ⊎ ((fails is.2 ≡ false) × HaveStatuses units is.1 is.3)
-        → ((fails is.2 ≡ true) × (is.1 ++ own ≡ []) × (is.3 ++ s ∷ [] ≡ [])) ⊎ ((fails is.2 ≡ false) × HaveStatuses (units ++ unit ∷ []) (is.1 ++ own) (is.3 ++ s ∷ []))
-    goes_on (inl failed) =
-        let e : true ≡ false = sym failed.0 ∙ either.0 in
-        absurd cc
-    goes_on (inr fine) = inr (fine.0, have_on units unit is.1 own is.3 s fine.1 either.1 has)
+    let fine = fine_parts ss is.2 is.3 is.5 none in (
+      is.0,
+      is.1 ++ own,
+      is.2,
+      is.3 ++ s ∷ [],
+      ap (λ e. e ++ own) is.4 ∙ append_assoc is.0 is.1 own,
+      ap (λ t. t ++ s ∷ []) is.5,
+      is.6,
+      inr (fine.0, have_on units unit is.1 own is.3 s (goes_on units is.1 is.2 is.3 is.7 fine.0) fine.1 has),
+    )
 
 -- where one fails, no more of them have a status
+more_goes : (units more : List Whole) (others : List Entry) (told : PipeStatus) (rest : List PipeStatus) → Goes units others told rest
+    → (fails told ≡ false → HaveStatuses units others rest → HaveStatuses (units ++ more) others rest) → Goes (units ++ more) others told rest
+more_goes units more others told rest (inl failed) on = inl failed
+more_goes units more others told rest (inr fine) on = inr (fine.0, on fine.0 fine.1)
+
 have_more : (units more : List Whole) (entries : List Entry) (ss : List PipeStatus) → HaveStatuses units entries ss → list_any fails ss ≡ true → HaveStatuses (units ++ more) entries ss
 have_more [] more entries ss is some =
     let e : false ≡ true = sym (ap (list_any fails) is.1) ∙ some in
     absurd cc
-have_more (unit ∷ units) more entries ss is some = (is.0, is.1, is.2, is.3, is.4, is.5, is.6, goes_on is.7)
-  where
-    rest : fails is.2 ≡ false → list_any fails is.3 ≡ true
-    rest fine = sym (ap (λ b. b || list_any fails is.3) fine) ∙ sym (ap (list_any fails) is.5) ∙ some
-
-    goes_on : ((fails is.2 ≡ true) × (is.1 ≡ []) × (is.3 ≡ [])) ⊎ ((fails is.2 ≡ false) × HaveStatuses units is.1 is.3)
-        → ((fails is.2 ≡ true) × (is.1 ≡ []) × (is.3 ≡ [])) ⊎ ((fails is.2 ≡ false) × HaveStatuses (units ++ more) is.1 is.3)
-    goes_on (inl failed) = inl failed
-    goes_on (inr fine) = inr (fine.0, have_more units more is.1 is.3 fine.1 (rest fine.0))
+have_more (unit ∷ units) more entries ss is some = (
+  is.0,
+  is.1,
+  is.2,
+  is.3,
+  is.4,
+  is.5,
+  is.6,
+  more_goes units more is.1 is.2 is.3 is.7
+      (λ fine had. have_more units more is.1 is.3 had (sym (ap (λ b. b || list_any fails is.3) fine) ∙ sym (ap (list_any fails) is.5) ∙ some)),
+)
 
 -- WHAT IS KEPT OF A RUN OF ONE UNIT MORE
 

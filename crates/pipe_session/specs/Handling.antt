@@ -1,4 +1,5 @@
--- How the units of a session are handled, one after another. For the functions within: no public clause Rattle.std.specs.Prelude.{◌≡◌, ◌⊎◌, ℕ, Bool, true, false, ◌<◌, ◌≤◌, if◌then◌else◌, List, [], ◌∷◌, ◌++◌, length, take, Option, Some, None}
+-- How the units of a session are handled, one after another. For the functions within: no public clause cites it.
+use Rattle.std.specs.Prelude.{◌≡◌, ◌⊎◌, ℕ, Bool, true, false, ◌<◌, ◌≤◌, if◌then◌else◌, List, [], ◌∷◌, ◌++◌, length, take, Option, Some, None}
 use Rattle.arc_core.specs.declared.outside.Need.TheVariants as need
 use Rattle.arc_core.specs.declared.pipes.PipeStatus.{PipeStatus}
 use Rattle.arc_core.specs.declared.pipes.PipeStatus.TheVariants as status

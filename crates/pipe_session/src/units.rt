@@ -1,5 +1,5 @@
 //! Handles the units of a session.
-ghost use Rattle.std.specs.Prelude.{◌≡◌, ◌<◌, ◌≤◌, ◌++◌, ℕ, List, [], length, true, false, is_some, if◌then◌else◌, Option, Some, None, IfSome};
+ghost use Rattle.std.specs.Prelude.{◌≡◌, ◌<◌, ◌≤◌, ◌^◌, ◌++◌, ℕ, List, [], length, true, false, is_some, if◌then◌else◌, Option, Some, None, IfSome};
 ghost use Rattle.arc_core.specs.Framing.{IsSpan};
 ghost use Rattle.arc_core.specs.CollectionLines.{CanBeSpelled, IsCollHead, coll_is_quit, coll_line_is_silent, coll_line_needs, coll_need_of};
 ghost use Rattle.arc_core.specs.Grammar.{Meets};

@@ -5,8 +5,8 @@ use Rattle.pipe_session.specs.Owing.{Owing}
 use Rattle.pipe_session.proofs.Owing.{no_rest}
 use Rattle.pipe_session.proofs.owed.Owed.put.Goals as goal
 
-pub returns : goal.returns
-returns c =
+pub returns-clause-text : goal.returns-clause-text
+returns-clause-text c =
     let waiting = c.self.inside.waiting in
-    let none = no_rest c.self.inside.long c.self.inside.at (ap (λ (o : Owing). o.is_full) c.self.view_is ∙ c.requires.room) in
-    ap (λ t. t ++ reply_text c.args.reply) (c.if-put.ensures.0 ∙ sym (append-nil waiting) ∙ ap (λ r. waiting ++ r) (sym none) ∙ ap (λ (o : Owing). o.text) c.self.view_is)
+    let none = no_rest c.self.inside.long c.self.inside.at (ap (λ (o : Owing). o.has_long) c.self.view_is ∙ c.requires.room) in
+    ap (λ t. t ++ reply_text c.args.reply) (c.if-put.ensures.put.0 ∙ sym (append-nil waiting) ∙ ap (λ r. waiting ++ r) (sym none) ∙ ap (λ (o : Owing). o.text) c.self.view_is)
