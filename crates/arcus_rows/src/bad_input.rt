@@ -141,7 +141,7 @@ const BAD_FORMAT: [&str; 117] = [
 ];
 
 // The same for commands on lists.
-const BAD_LIST_FORMAT: [&str; 44] = [
+const BAD_LIST_FORMAT: [&str; 45] = [
     // lop create: <key> <flags> <exptime> <maxcount> [<action>] [unreadable] [noreply]
     "lop create",
     "lop create l",
@@ -157,8 +157,7 @@ const BAD_LIST_FORMAT: [&str; 44] = [
     "lop create l 0 0 0 unreadable error",
     "lop create l 0 0 0 error error",
     "lop create l 0 0 0 noreply unreadable",
-    "lop create l 0 0 0 pipe",
-    // lop insert: <key> <index> <bytes> [create ..] [noreply]
+    // lop insert: <key> <index> <bytes> [create ..] [noreply|pipe]
     "lop insert",
     "lop insert l 0",
     "lop insert l x 1",
@@ -173,7 +172,8 @@ const BAD_LIST_FORMAT: [&str; 44] = [
     "lop insert l 0 1 create 4294967296 0 0",
     "lop insert l 0 1 create 0 0 0 largest_trim",
     "lop insert l 0 1 noreply create 0 0 0",
-    // lop delete: <key> <index or range> [drop] [noreply]
+    "lop insert l 0 1 pipe noreply",
+    // lop delete: <key> <index or range> [drop] [noreply|pipe]
     "lop delete l",
     "lop delete l 0..",
     "lop delete l ..1",
@@ -184,6 +184,7 @@ const BAD_LIST_FORMAT: [&str; 44] = [
     "lop delete l -2147483649..0",
     "lop delete l 0 delete",
     "lop delete l 0 noreply drop",
+    "lop delete l 0 pipe drop",
     // lop get: <key> <index or range> [delete|drop]
     "lop get l",
     "lop get l -",
@@ -195,18 +196,18 @@ const BAD_LIST_FORMAT: [&str; 44] = [
 // The same for commands on sets and maps.
 const BAD_SET_OR_MAP_FORMAT: [&str; 42] = [
     "sop create s 0 0 0 tail_trim",
-    // sop insert: <key> <bytes> [create ..] [noreply]
+    // sop insert: <key> <bytes> [create ..] [noreply|pipe]
     "sop insert s",
     "sop insert s x",
     "sop insert s 2147483648",
     "sop insert s 1 1",
     "sop insert s 1 create 0 0 0 head_trim",
     "sop insert {16001s} 1",
-    // sop delete: <key> <bytes> [drop] [noreply]
+    // sop delete: <key> <bytes> [drop] [noreply|pipe]
     "sop delete s",
     "sop delete s 1 delete",
     "sop delete s 1 create 0 0 0",
-    // sop exist: <key> <bytes>
+    // sop exist: <key> <bytes> [pipe]
     "sop exist s",
     "sop exist s 1 drop",
     "sop exist s 1 noreply",
@@ -217,7 +218,7 @@ const BAD_SET_OR_MAP_FORMAT: [&str; 42] = [
     "sop get s 0..1",
     "sop get s 1 noreply",
     "mop create m 0 0 0 smallest_trim",
-    // mop insert, mop upsert: <key> <field> <bytes> [create ..] [noreply], with fields of 250 bytes at most
+    // mop insert, mop upsert: <key> <field> <bytes> [create ..] [noreply|pipe], with fields of 250 bytes at most
     "mop insert m f",
     "mop insert m f 2147483648",
     "mop insert m {251f} 1",
@@ -226,11 +227,11 @@ const BAD_SET_OR_MAP_FORMAT: [&str; 42] = [
     "mop upsert m f",
     "mop upsert m {251f} 1",
     "mop upsert m f 1 drop",
-    // mop update: <key> <field> <bytes> [noreply]
+    // mop update: <key> <field> <bytes> [noreply|pipe]
     "mop update m f",
     "mop update m {251f} 1",
     "mop update m f 1 create 0 0 0",
-    // mop delete: <key> <lenfields> <numfields> [drop] [noreply], with 1 to 50,000 fields, or 0 0
+    // mop delete: <key> <lenfields> <numfields> [drop] [noreply|pipe], with 1 to 50,000 fields, or 0 0
     "mop delete m 1",
     "mop delete m 0 1",
     "mop delete m 1 0",
@@ -246,18 +247,37 @@ const BAD_SET_OR_MAP_FORMAT: [&str; 42] = [
     "mop get m 1 1 noreply",
 ];
 
-// Changes that end with `pipe`.
-const PIPED: [&str; 6] = [
-    "lop insert l 0 1 pipe",
-    "lop delete l 0 drop pipe",
-    "sop exist s 1 pipe",
-    "sop insert s 1 create 0 0 0 pipe",
-    "mop upsert m f 1 pipe",
-    "mop delete m 0 0 pipe",
+// Lines that open a run by their first word and their last one, and whose words between spell nothing: a command that
+// cannot be piped, or one with words that are missing or too many.
+const BAD_PIPED_FORMAT: [&str; 14] = [
+    "lop create l 0 0 0 pipe",
+    "sop create s 0 0 0 noreply pipe",
+    "lop get l 0 pipe",
+    "sop get s 0 pipe",
+    "mop get m 0 0 drop pipe",
+    "lop insert pipe",
+    "lop insert l 0 pipe",
+    "lop insert l 0 1 noreply pipe",
+    "lop insert l 0 1 pipe pipe",
+    "lop insert l 0 1 create 0 0 pipe",
+    "lop delete l 0 delete pipe",
+    "sop insert s pipe",
+    "sop exist s 1 noreply pipe",
+    "mop update m pipe",
+];
+
+// Lines that open a run so, and are no command.
+const UNKNOWN_PIPED: [&str; 6] = [
+    "lop pipe",
+    "bop pipe",
+    "lop  LOP  pipe",
+    "lop move l 0 pipe",
+    "sop update s 1 pipe",
+    "mop exist m f 1 pipe",
 ];
 
 // Lines without a word, and lines whose first word is no command, or of which the first two are none.
-const UNKNOWN: [&str; 20] = [
+const UNKNOWN: [&str; 22] = [
     "",
     "   ",
     "\t",
@@ -278,6 +298,8 @@ const UNKNOWN: [&str; 20] = [
     "mop exist m 1",
     "bop get b 0",
     "insert lop l 0 1",
+    "pipe",
+    "lops insert l 0 1 pipe",
 ];
 
 // Each of the lines has this answer, and the line behind it is read as a line: no block is taken.
@@ -308,7 +330,16 @@ fn bad_lines_on_collections_are_answered(rt: HostRuntime) -> Result<(), Fail> {
     let answer = "CLIENT_ERROR bad command line format";
     expect_refused(&rt, rt.alloc(), &BAD_LIST_FORMAT, answer)?;
     expect_refused(&rt, rt.alloc(), &BAD_SET_OR_MAP_FORMAT, answer)?;
-    expect_refused(&rt, rt.alloc(), &PIPED, answer)?;
+    Ok(())
+}
+
+// They are the one command of their run, and the line behind it breaks it off.
+#[test]
+fn bad_piped_lines_are_answered(rt: HostRuntime) -> Result<(), Fail> {
+    let answer = "RESPONSE 1|CLIENT_ERROR bad command line format|PIPE_ERROR bad error";
+    expect_refused(&rt, rt.alloc(), &BAD_PIPED_FORMAT, answer)?;
+    let answer = "RESPONSE 1|ERROR unknown command|PIPE_ERROR bad error";
+    expect_refused(&rt, rt.alloc(), &UNKNOWN_PIPED, answer)?;
     Ok(())
 }
 
@@ -571,7 +602,7 @@ const ANSWERED_ON_COLLECTIONS: [(&str, &str); 24] = [
         "CLIENT_ERROR bad command line format|ERROR unknown command|NOT_FOUND|",
     ),
     (
-        "sop insert s 1 pipe|version|mop get m 0 1|f|",
+        "sop insert s 1 piped|version|mop get m 0 1|f|",
         "CLIENT_ERROR bad command line format|VERSION arcus-profile-2|CLIENT_ERROR bad command line format|ERROR unknown command|",
     ),
     // `0 0` has no block.
