@@ -1,19 +1,15 @@
 -- What was told of one thing, told of another: of a head, of its line, and of its unit.
-use Rattle.std.proofs.Common.{◌≡◌, ◌⊎◌, ℕ, Bool, true, false, List, [], ◌∷◌, ◌++◌, Option, Some, None, refl, sym, ap, ◌∙◌, inl, inr, subst, append_assoc}
+use Rattle.std.proofs.Common.{◌≡◌, ℕ, Bool, true, false, List, [], ◌∷◌, ◌++◌, refl, sym, ap, ◌∙◌, inl, inr, append_assoc}
 use Rattle.std.proofs.lemmas.List.{append-nil}
 use Rattle.std.specs.Prelude.{if◌then◌else◌}
 use Rattle.arc_core.specs.declared.pipes.PipeStatus.{PipeStatus}
-use Rattle.arc_core.specs.declared.pipes.PipeStatus.TheVariants as status
 use Rattle.arc_core.specs.declared.replies.Reply.{Reply}
-use Rattle.arc_core.specs.declared.replies.Word.{Word}
 use Rattle.arc_core.specs.History.{Entry}
 use Rattle.arc_core.specs.PlainRequest.{PlainRequest}
-use Rattle.arc_core.specs.ReplyText.{word_line}
-use Rattle.reply_print.specs.PipeText.{status_of}
-use Rattle.pipe_session.specs.Runs.{Kept, TakesOne, answer_of, broken_answer_of, no_run, passed_over, takes_one, with_status}
-use Rattle.pipe_session.specs.Handling.{Stand, Executed, ExecutesOne, Facts, IsTold, IsToldAlone, IsToldBehindRun, GoesOnInRun, EndsRun, BreaksRun, WordStatus, RequestStatus, word_facts}
+use Rattle.pipe_session.specs.Runs.{Kept, TakesOne, broken_answer_of, no_run}
+use Rattle.pipe_session.specs.Handling.{Stand, Executed, ExecutesOne, Facts, IsTold, IsToldBehindRun}
 
-takes_as : (Status Status' : List Entry → PipeStatus → Type 0) → ((entries : List Entry) (told : PipeStatus) → Status entries told → Status' entries told)
+pub takes_as : (Status Status' : List Entry → PipeStatus → Type 0) → ((entries : List Entry) (told : PipeStatus) → Status entries told → Status' entries told)
     → (kept kept' : Kept) (entries : List Entry) → TakesOne Status kept kept' entries → TakesOne Status' kept kept' entries
 takes_as Status Status' since kept kept' entries (inl takes) = inl (takes.0, takes.1, since entries takes.1 takes.2, takes.3)
 takes_as Status Status' since kept kept' entries (inr over) = inr over

@@ -1,6 +1,5 @@
 -- One history after another, and one unit after others.
-use Rattle.std.proofs.Common.{ℕ, List, [], ◌∷◌, ◌++◌, Option, true, sym, ap, ◌∙◌, refl, subst, append_assoc}
-use Rattle.std.proofs.lemmas.List.{append-nil}
+use Rattle.std.proofs.Common.{ℕ, List, [], ◌∷◌, ◌++◌, Option, ap, ◌∙◌, refl, subst, append_assoc}
 use Rattle.arc_core.specs.declared.outside.Need.{Need}
 use Rattle.arc_core.specs.History.{Entry}
 use Rattle.arc_core.specs.Framing.{Whole, BeginsWith, IsSpan}

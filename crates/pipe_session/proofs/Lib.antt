@@ -5,6 +5,7 @@ pub mod Pieces
 pub mod Piped
 pub mod Histories
 pub mod Facts
+pub mod Behind
 pub mod Telling
 pub mod Fronts
 pub mod ToldMore

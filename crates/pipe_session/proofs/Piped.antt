@@ -1,7 +1,6 @@
 -- Commands that may be piped ask for changes.
-use Rattle.std.proofs.Common.{◌≡◌, ℕ, Bool, true, false, List, Option, Some, None, option_map, refl, sym, ap, ◌∙◌, subst}
+use Rattle.std.proofs.Common.{◌≡◌, ℕ, Bool, true, List, Option, Some, None, option_map, refl, sym, ap, ◌∙◌, subst}
 use Rattle.std.proofs.lemmas.Bool.{and_parts}
-use Rattle.std.specs.Option.{option_map_or}
 use Rattle.arc_core.specs.declared.coll_commands.CollCommand.{CollCommand}
 use Rattle.arc_core.specs.declared.coll_commands.CollCommand.TheVariants as command
 use Rattle.arc_core.specs.declared.coll_commands.CollHead.{CollHead}

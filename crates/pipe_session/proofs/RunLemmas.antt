@@ -1,5 +1,5 @@
 -- Runs of piped commands: one unit more.
-use Rattle.std.proofs.Common.{◌≡◌, ◌+◌, ◌-◌, ◌<◌, ◌≤◌, ◌⊎◌, ℕ, suc, Bool, true, false, ◌&&◌, ◌||◌, cond, List, [], ◌∷◌, ◌++◌, length, take, Option, Some, None, refl, sym, ap, ◌∙◌, inl, inr, subst, append_assoc, length-append, arith}
+use Rattle.std.proofs.Common.{◌≡◌, ◌+◌, ◌<◌, ◌≤◌, ◌⊎◌, ℕ, suc, Bool, true, false, ◌&&◌, ◌||◌, List, [], ◌∷◌, ◌++◌, length, take, Some, None, refl, sym, ap, ◌∙◌, inl, inr, subst, append_assoc, length-append, arith}
 use Rattle.std.specs.Prelude.{nat_lt, if◌then◌else◌}
 use Rattle.std.specs.List.{list_any}
 use Rattle.std.proofs.lemmas.Bool.{and_parts, cases_lt, ltb-true, ltb-false, lt-ltb, le-ltb}
@@ -10,7 +10,7 @@ use Rattle.arc_core.specs.declared.pipes.PipeFault.TheVariants as fault
 use Rattle.arc_core.specs.declared.pipes.PipeStatus.{PipeStatus}
 use Rattle.arc_core.specs.Framing.{Whole}
 use Rattle.arc_core.specs.History.{Entry}
-use Rattle.pipe_session.specs.Runs.{Kept, KeepsRun, TakesOne, TellsSoFar, is_fine, takes_one, with_status, passed_over, broken_off, no_run, answer_of, broken_answer_of}
+use Rattle.pipe_session.specs.Runs.{Kept, KeepsRun, TakesOne, TellsSoFar, is_fine, takes_one, broken_off, no_run, answer_of, broken_answer_of}
 use Rattle.pipe_session.specs.SessionText.{Group, alone, run, cut_off, HasStatus, HaveStatuses, TellsGroup, TellsGroups, TellsUnit, TellsRun, Tells, fails, fault_of, is_marked, belongs, opened, ended_by, ended_unmarked, open_behind, groups_before, at_end}
 
 -- THE GROUPS OF ONE UNIT MORE

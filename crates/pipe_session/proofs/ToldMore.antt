@@ -1,5 +1,5 @@
 -- What units tell with one more.
-use Rattle.std.proofs.Common.{◌≡◌, ◌⊎◌, ℕ, List, [], ◌∷◌, ◌++◌, true, false, refl, sym, inl, inr, subst}
+use Rattle.std.proofs.Common.{ℕ, List, [], ◌∷◌, ◌++◌, sym, inl, inr, subst}
 use Rattle.std.proofs.lemmas.List.{append-nil}
 use Rattle.arc_core.specs.Framing.{Whole}
 use Rattle.arc_core.specs.History.{Entry}

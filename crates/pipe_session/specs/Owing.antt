@@ -1,5 +1,5 @@
 -- Text that a session owes to its link, and how it is sent.
-use Rattle.std.specs.Prelude.{◌≡◌, ℕ, ◌<◌, ◌≤◌, ◌^◌, Bool, List, [], ◌++◌, length, drop, Option, Some, None, Result, Ok, Err}
+use Rattle.std.specs.Prelude.{◌≡◌, ℕ, ◌<◌, ◌≤◌, ◌^◌, Bool, List, [], ◌++◌, length, drop, Option, Some, None, Result, Ok, Err, ◌⊎◌, false}
 use Rattle.arc_core.specs.declared.replies.Reply.{Reply}
 use Rattle.arc_core.specs.Outside.{Outgoing, then_sent}
 use Rattle.arc_core.specs.ReplyText.{reply_text}
@@ -16,6 +16,10 @@ pub record Owing : Type 0 where
   pub is_full : Bool
   pub has_long : Bool
   pub run : Kept
+
+-- One more text has room.
+abbrev pub HasRoom : Owing → Type 0
+HasRoom owing = (owing.is_full ≡ false) ⊎ (owing.has_long ≡ false)
 
 -- the text of a reply from this offset on, where there is one
 abbrev pub rest_of : Option Reply → ℕ → List ℕ

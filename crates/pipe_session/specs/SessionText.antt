@@ -138,9 +138,9 @@ abbrev pub is_plain : Answer → Bool
 is_plain answer.Plain = true
 is_plain other = false
 
--- whether a request that is not piped may be a run's last one: it might be piped, and is answered by a text
+-- whether a request that is not piped may be a run's last one: it is answered by a text, and might be piped
 abbrev pub may_end_a_run : PlainRequest → Bool
-may_end_a_run request = act_may_be_piped request.act && is_plain request.answer
+may_end_a_run request = is_plain request.answer && act_may_be_piped request.act
 
 -- whether a line with its block belongs to the run in front of it: as such a request, or since the session answers it by
 -- itself

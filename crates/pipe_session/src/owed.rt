@@ -2,7 +2,7 @@
 ghost use Rattle.std.specs.Prelude.{◌≡◌, ◌<◌, ◌≤◌, ◌^◌, ◌++◌, [], true, false, None, Some, length, if◌then◌else◌, IfOk, OnOk};
 ghost use Rattle.arc_core.specs.Outside.{incoming, outgoing};
 ghost use Rattle.arc_core.specs.ReplyText.{reply_text, word_line};
-ghost use Rattle.pipe_session.specs.Owing.{Sends, IsRestOf, rest_of};
+ghost use Rattle.pipe_session.specs.Owing.{HasRoom, Sends, IsRestOf, rest_of};
 ghost use Rattle.pipe_session.specs.Runs.{no_run, takes_one, with_status, passed_over, answer_of, broken_answer_of};
 
 use crate::run::Run;
@@ -129,7 +129,7 @@ impl Owed {
 
     /// Owes the text of a reply behind all else.
     pub fn put(&mut self, reply: Reply)
-        requires room { self.old.has_long ≡ false }
+        requires room { HasRoom self.old }
         requires fits { length (reply_text reply) < 2 ^ 64 }
         ensures text { self.new.text ≡ self.old.text ++ reply_text reply }
         ensures run { self.new.run ≡ self.old.run }
@@ -143,7 +143,7 @@ impl Owed {
 
     /// Owes the line of a word behind all else.
     pub fn put_word(&mut self, word: Word)
-        requires room { self.old.has_long ≡ false }
+        requires room { HasRoom self.old }
         ensures text { self.new.text ≡ self.old.text ++ word_line word }
         ensures run { self.new.run ≡ self.old.run }
     {

@@ -3,7 +3,7 @@ ghost use Rattle.std.specs.Prelude.{◌≡◌, ◌<◌, ◌≤◌, ◌^◌, ◌+
 ghost use Rattle.arc_core.specs.Framing.{IsSpan};
 ghost use Rattle.arc_core.specs.CollectionLines.{CanBeSpelled, IsCollHead, coll_is_quit, coll_line_is_silent, coll_line_needs, coll_need_of};
 ghost use Rattle.arc_core.specs.Grammar.{Meets};
-ghost use Rattle.arc_core.specs.PlainRequest.{plain};
+ghost use Rattle.arc_core.specs.PlainRequest.{plain, plain_act};
 ghost use Rattle.arc_core.specs.ReplyText.{reply_text};
 ghost use Rattle.arc_core.specs.Words.{words};
 ghost use Rattle.frame_reader.specs.Units.{whole_of};
@@ -11,6 +11,7 @@ ghost use Rattle.reply_print.specs.PipeText.{status_of};
 ghost use Rattle.pipe_session.specs.SessionText.{act_may_be_piped, command_may_be_piped, head_is_piped, have_piped_form, is_collection_word, last_word, line_is_marked, may_end_a_run};
 ghost use Rattle.pipe_session.specs.Runs.{Kept, TakesOne, answer_of, no_run};
 ghost use Rattle.pipe_session.specs.Handling.{stand, ExecutesOne, IsTold, IsToldAlone, GoesOnInRun, EndsRun, HeadStatus, RequestStatus, WordStatus, head_facts, word_facts, TellsHead, HasItsBlock, HandlesLine, HandlesUnit, TakesFront, TakesNext};
+ghost use Rattle.pipe_session.specs.Owing.{HasRoom};
 ghost use Rattle.pipe_session.specs.Units.{IsBetweenUnits};
 ghost use Rattle.pipe_session.specs.Turns.{IsReadingBehind};
 
@@ -52,19 +53,38 @@ fn is_piped(head: &CollHead<'_>) -> bool
 fn may_end_a_run(request: &Request<'_>) -> bool
     ensures { result ≡ may_end_a_run (plain request.now) }
 {
-    let may_be_piped = matches!(
-        request.act,
+    match request.answer {
+        Answer::Plain => is_change(&request.act),
+        Answer::NoReply | Answer::Pipe => false,
+    }
+}
+
+// Whether a request changes elements, or asks whether a set has a value.
+fn is_change(act: &Act<'_>) -> bool
+    ensures { result ≡ act_may_be_piped (plain_act act.now) }
+{
+    match act {
         Act::ListInsert { .. }
-            | Act::ListDelete { .. }
-            | Act::SetInsert { .. }
-            | Act::SetDelete { .. }
-            | Act::SetExist { .. }
-            | Act::MapInsert { .. }
-            | Act::MapUpdate { .. }
-            | Act::MapUpsert { .. }
-            | Act::MapDelete { .. }
-    );
-    may_be_piped && matches!(request.answer, Answer::Plain)
+        | Act::ListDelete { .. }
+        | Act::SetInsert { .. }
+        | Act::SetDelete { .. }
+        | Act::SetExist { .. }
+        | Act::MapInsert { .. }
+        | Act::MapUpdate { .. }
+        | Act::MapUpsert { .. }
+        | Act::MapDelete { .. } => true,
+        Act::Store { .. }
+        | Act::Get { .. }
+        | Act::Count { .. }
+        | Act::Delete { .. }
+        | Act::Touch { .. }
+        | Act::FlushAll
+        | Act::Version
+        | Act::Create { .. }
+        | Act::ListGet { .. }
+        | Act::SetGet { .. }
+        | Act::MapGet { .. } => false,
+    }
 }
 
 // Whether a line that spells no command has the form of a piped one.
@@ -130,6 +150,27 @@ fn answer_in_run<D: Desk, C: Clock>(
     }
 }
 
+// Has a request of a run executed, where the run takes one more, and keeps its status.
+fn take_request<D: Desk, C: Clock>(
+    desk: &mut D,
+    clock: &mut C,
+    owed: &mut Owed,
+    request: &Request<'_>,
+)
+    requires ready { D.ready desk.old }
+    requires spelled { CanBeSpelled (plain request.now) }
+    requires piped { act_may_be_piped (plain request.now).act ≡ true }
+    ensures goes_on { GoesOnInRun D.answers (RequestStatus (plain request.now)) (stand desk.old (C.coming clock.old) owed.old.text owed.old.run)
+        (stand desk.new (C.coming clock.new) owed.new.text owed.new.run) }
+    ensures room { owed.new.is_full ≡ owed.old.is_full }
+{
+    if !owed.takes_one() {
+        return;
+    }
+    let status = answer_in_run(desk, clock, request);
+    owed.put_status(status);
+}
+
 // Has a piped command executed, where its run takes one more, and keeps its status.
 fn execute_piped<'a, D: Desk, C: Clock>(
     desk: &mut D,
@@ -141,18 +182,15 @@ fn execute_piped<'a, D: Desk, C: Clock>(
     requires ready { D.ready desk.old }
     requires spelled { (line : List ℕ) × IsCollHead line head }
     requires block { Meets (coll_need_of head) block.now }
+    requires goes_on { coll_is_quit head ≡ false }
     requires piped { head_is_piped head ≡ true }
     ensures { GoesOnInRun D.answers (HeadStatus head.entry block.now) (stand desk.old (C.coming clock.old) owed.old.text owed.old.run)
         (stand desk.new (C.coming clock.new) owed.new.text owed.new.run) }
 {
-    if !owed.takes_one() {
-        return;
+    match join(head, block) {
+        Ok(request) => take_request(desk, clock, owed, &request),
+        Err(BlockFault) => take_word(owed, Word::BadChunk),
     }
-    let status = match join(head, block) {
-        Ok(request) => answer_in_run(desk, clock, &request),
-        Err(BlockFault) => PipeStatus::Word(Word::BadChunk),
-    };
-    owed.put_status(status);
 }
 
 // Handles a head behind a run that is open, which is no piped command: it is the run's last one, or breaks it off.
@@ -201,10 +239,7 @@ fn end_run_by<D: Desk, C: Clock>(
     ensures { EndsRun D.answers (RequestStatus (plain request.now)) (stand desk.old (C.coming clock.old) owed.old.text owed.old.run)
         (stand desk.new (C.coming clock.new) owed.new.text owed.new.run) }
 {
-    if owed.takes_one() {
-        let status = answer_in_run(desk, clock, request);
-        owed.put_status(status);
-    }
+    take_request(desk, clock, owed, request);
     owed.end_run();
 }
 
@@ -237,7 +272,7 @@ fn answer_alone<D: Desk, C: Clock>(
     silent: bool,
 )
     requires ready { D.ready desk.old }
-    requires room { owed.old.has_long ≡ false }
+    requires room { HasRoom owed.old }
     requires spelled { CanBeSpelled (plain request.now) }
     ensures { (reply : Reply) × ExecutesOne D.answers desk.old (C.coming clock.old) (plain request.now) reply desk.new (C.coming clock.new)
         × (owed.new.text ≡ owed.old.text ++ (if silent then [] else reply_text reply)) × (owed.new.run ≡ owed.old.run) }
@@ -323,11 +358,10 @@ fn answer_itself<D: Desk>(owed: &mut Owed, line: &[u8], word: Word)
     ensures { (desk : D) (coming : Option (List ℕ)) → IsTold D.answers (word_facts (line_is_marked line.now) (coll_line_is_silent line.now) word)
         (stand desk coming owed.old.text owed.old.run) (stand desk coming owed.new.text owed.new.run) }
 {
-    let (marked, silent) = match read_head(line) {
-        Ok(head) => (is_piped(&head), head.is_silent()),
-        Err(_) => (has_piped_form(line), false),
-    };
-    answer_by_word::<D>(owed, marked, silent, word);
+    match read_head(line) {
+        Ok(head) => answer_by_word::<D>(owed, is_piped(&head), head.is_silent(), word),
+        Err(_) => answer_by_word::<D>(owed, has_piped_form(line), false, word),
+    }
 }
 
 // Handles a line with its block, which is empty where the line asks for none.

@@ -1,10 +1,12 @@
-use Rattle.std.proofs.Common.{◌≡◌, List, ℕ, refl, subst}
+use Rattle.std.proofs.Common.{◌≡◌, ◌∙◌, ◌++◌, List, ℕ, refl, subst, ap, inr}
 use Rattle.std.specs.Prelude.{IfSome}
 use Rattle.arc_core.specs.declared.replies.Word.TheVariants as word
 use Rattle.arc_core.specs.Framing.{Whole, IsSpan}
 use Rattle.arc_core.specs.Framing as whole
 use Rattle.arc_core.specs.CollectionLines.{coll_line_needs}
 use Rattle.frame_reader.specs.Units.{whole_of}
+use Rattle.arc_core.specs.ReplyText.{word_line}
+use Rattle.pipe_session.specs.Handling.{stand}
 use Rattle.pipe_session.proofs.Telling.{line_handled, block_handled, answer_handled, long_handled}
 use Rattle.pipe_session.proofs.units.handle_unit.Goals as goal
 
@@ -49,5 +51,8 @@ returns-in-BlockNoMemory g c =
 
 pub returns-in-LineTooLong : goal.returns-in-LineTooLong
 returns-in-LineTooLong g c =
-    rw c.in-LineTooLong.is (long_handled g.D.Desk.answers (stand c.args.desk.now (g.C.Clock.coming c.args.clock.now) c.args.owed.now.text c.args.owed.now.run) (stand c.args.desk.now (g.C.Clock.coming c.args.clock.now) c.put_word.new.owed.text c.put_word.new.owed.run) refl refl (c.put_word.ensures.text ∙ ap (λ o. o ++ word_line word.LineTooLong) c.break_run.ensures.text)
+    rw c.in-LineTooLong.is (long_handled g.D.Desk.answers (stand c.args.desk.now (g.C.Clock.coming c.args.clock.now) c.args.owed.now.text c.args.owed.now.run) (stand c.args.desk.now (g.C.Clock.coming c.args.clock.now) c.put_word.new.self.text c.put_word.new.self.run) refl refl (c.put_word.ensures.text ∙ ap (λ o. o ++ word_line word.LineTooLong) c.break_run.ensures.text)
     (c.put_word.ensures.run ∙ c.break_run.ensures.run))
+
+pub put_word-requires : goal.put_word-requires
+put_word-requires g c = record { room = inr c.break_run.ensures.room }

@@ -11,5 +11,5 @@ returns-in-Some-clause-takes g c =
 
 pub returns-in-None-clause-takes : goal.returns-in-None-clause-takes
 returns-in-None-clause-takes g c =
-    subst (λ s. TakesNext g.D.Desk.answers s (stand c.feed_unit-in-None.new.desk (g.C.Clock.coming c.feed_unit-in-None.new.clock) c.feed_unit-in-None.new.owed.text)
+    subst (λ s. TakesNext g.D.Desk.answers s (stand c.feed_unit-in-None.new.desk (g.C.Clock.coming c.feed_unit-in-None.new.clock) c.feed_unit-in-None.new.owed.text c.feed_unit-in-None.new.owed.run)
     c.args.frames.now c.feed_unit-in-None.new.frames c.args.piece.now c.feed_unit-in-None.result.0 c.feed_unit-in-None.result.1) c.in-None.ensures.front c.feed_unit-in-None.ensures.takes
