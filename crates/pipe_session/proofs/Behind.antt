@@ -51,14 +51,30 @@ module _ (head : CollHead) (block : List ℕ) where
     pub ended_by : (request : PlainRequest) → Some request ≡ coll_request_of head block → coll_is_quit head ≡ false → head_is_piped head ≡ false → from.run.is_open ≡ true → may_end_a_run request ≡ true
         → EndsRun answers (RequestStatus request) from to → IsTold answers (head_facts head block) from to
     ended_by request is goes alone running may ends =
-        inr (alone, inl (running, inl (belongs_by (Some request) goes is ∙ may,
-        (ends.0, ends.1, takes_as (RequestStatus request) (HeadStatus head block) (as_head_status request is) from.run ends.1 ends.0 ends.2, ends.3, ends.4))))
+        inr (
+          alone,
+          inl (
+            running,
+            inl (
+              belongs_by (Some request) goes is ∙ may,
+              (ends.0, ends.1, takes_as (RequestStatus request) (HeadStatus head block) (as_head_status request is) from.run ends.1 ends.0 ends.2, ends.3, ends.4),
+            ),
+          ),
+        )
 
     pub ended_badly : None ≡ coll_request_of head block → coll_is_quit head ≡ false → head_is_piped head ≡ false → from.run.is_open ≡ true → (kept : Kept) → TakesOne (WordStatus word.BadChunk) from.run kept []
         → to.desk ≡ from.desk → to.coming ≡ from.coming → to.owed ≡ from.owed ++ answer_of kept → to.run ≡ no_run → IsTold answers (head_facts head block) from to
     ended_badly is goes alone running kept takes desk coming owed none =
-        inr (alone, inl (running, inl (belongs_by None goes is,
-        ([], kept, takes_as (WordStatus word.BadChunk) (HeadStatus head block) (bad_head_status is) from.run kept [] takes, record { served = desk; seconds = coming; owed = owed }, none))))
+        inr (
+          alone,
+          inl (
+            running,
+            inl (
+              belongs_by None goes is,
+              ([], kept, takes_as (WordStatus word.BadChunk) (HeadStatus head block) (bad_head_status is) from.run kept [] takes, record { served = desk; seconds = coming; owed = owed }, none),
+            ),
+          ),
+        )
 
     -- it broke the run off
     pub broken_by_head : (request : PlainRequest) → Some request ≡ coll_request_of head block → coll_is_quit head ≡ false → head_is_piped head ≡ false → from.run.is_open ≡ true → may_end_a_run request ≡ false

@@ -18,8 +18,12 @@ returns-clause-goes_on g c =
     let done = c.answer_in_run-status.ensures in
     let one = done.1 in (
       one.0 ∷ [],
-      inl (sym kept.takes, c.answer_in_run-status.result, (one.0, one.1, refl, ap status_of one.2 ∙ done.2),
-      c.put_status.ensures.run ∙ ap (λ k. with_status k c.answer_in_run-status.result) kept.run),
+      inl (
+        sym kept.takes,
+        c.answer_in_run-status.result,
+        (one.0, one.1, refl, ap status_of one.2 ∙ done.2),
+        c.put_status.ensures.run ∙ ap (λ k. with_status k c.answer_in_run-status.result) kept.run,
+      ),
       record {
         served = (c.answer_in_run-status.new.desk, one.3, refl);
         seconds = (g.C.Clock.coming c.answer_in_run-status.new.clock, one.4, refl);
