@@ -30,18 +30,23 @@ none_met seat = record { seat = refl; own = ([], sym (append-nil seat.seen)); th
 -- it meets one more
 meets_one : (old : SeatView) (others : List SeatView) (now other next : SeatView) → HasMet old others now → IsMet now other next → HasMet old (others ++ other ∷ []) next
 meets_one old others now other next has is = record {
-  seat = is.seat ∙ ap (λ s. record s { seen = next.seen }) has.seat;
+  seat = is.seat ∙ ap (λ (s : SeatView). record s { seen = next.seen }) has.seat;
   own = begins_whole old.seen now.seen next.seen has.own is.own;
   theirs = one_more others other next.seen (still_begin others now.seen next.seen is.own has.theirs) is.other;
-  stays_true = λ _. subst IsTrue (sym is.seat) (record { legal = is.legal; own = is.calls });
+  stays_true = λ _. subst IsTrue (sym is.seat) true_there;
 }
+  where
+    true_there : IsTrue (record now { seen = next.seen })
+    true_there = record { legal = is.legal; own = is.calls }
 
 -- it meets the next of these
-pub meets_next : {W : Type 0} (seat_of : W → SeatView) (old : SeatView) (all : List W) (place : ℕ) (one : W) (now next : SeatView) → place < length all → get_or all place one ≡ one
-    → HasMet old (map seat_of (take place all)) now → IsMet now (seat_of one) next → HasMet old (map seat_of (take (place + 1) all)) next
-meets_next seat_of old all place one now next inside at has is =
-    let front : take (place + 1) all ≡ take place all ++ one ∷ [] = (take_at_read all place one inside).1 ∙ ap (λ w. take place all ++ w ∷ []) at in
-    subst (λ seats. HasMet old seats next) (sym (ap (map seat_of) front ∙ map_last seat_of (take place all) one)) (meets_one old (map seat_of (take place all)) now (seat_of one) next has is)
+pub meets_next : {W : Type 0} (seat_of : W → SeatView) (old : SeatView) (all all' : List W) (place : ℕ) (one : W) (now next : SeatView) → all' ≡ all → place < length all
+    → one ≡ get_or all' place one → HasMet old (map seat_of (take place all)) now → IsMet now (seat_of (get_or all' place one)) next → HasMet old (map seat_of (take (place + 1) all)) next
+meets_next seat_of old all all' place one now next same inside at has is =
+    let there : one ≡ get_or all place one = at ∙ ap (λ ws. get_or ws place one) same in
+    let met : IsMet now (seat_of one) next = subst (λ w. IsMet now (seat_of w) next) (sym at) is in
+    let front : take (place + 1) all ≡ take place all ++ one ∷ [] = (take_at_read all place one inside).1 ∙ ap (λ w. take place all ++ w ∷ []) (sym there) in
+    subst (λ seats. HasMet old seats next) (sym (ap (map seat_of) front ∙ map_last seat_of (take place all) one)) (meets_one old (map seat_of (take place all)) now (seat_of one) next has met)
 
 module _ {L W : Type 0} (look : L → Linked) (state : W → WorkerState L) where
   -- each of the workers has run, by its place

@@ -52,7 +52,7 @@ module _ {L : Type 0} (look : L → Linked) where
       (at, then, served, serves_last (number + 1) at then services service middle later seat' coming' more there)
 
   -- it is still a seat of the same lock
-  pub same_lock : (number : ℕ) (seat : SeatView) (coming : Option (List ℕ)) (services : List (Service L)) (seat' : SeatView) (coming' : Option (List ℕ))
+  same_lock : (number : ℕ) (seat : SeatView) (coming : Option (List ℕ)) (services : List (Service L)) (seat' : SeatView) (coming' : Option (List ℕ))
       → ServesFrom look number seat coming services seat' coming' → seat'.lock ≡ seat.lock
   same_lock number seat coming [] seat' coming' (same, still) = ap (λ s. s.lock) same
   same_lock number seat coming (first ∷ services) seat' coming' (at, then, served, more) =
@@ -68,6 +68,10 @@ module _ {L : Type 0} (look : L → Linked) where
     pub refusals : now.port.refusals ≡ before.port.refusals
     pub number : now.next ≡ length services
     pub same_sessions : now.sessions ≡ before.sessions
+    pub few : now.next ≤ now.sessions
+
+  pub lock_stays : (before now : WorkerState L) → RunsOn before now → now.seat.lock ≡ before.seat.lock
+  lock_stays before now runs = same_lock 0 before.seat before.coming runs.services now.seat now.coming runs.served
 
   pub begins : (before : WorkerState L) → RunsOn before (record before { next = 0 })
   begins before = record {
@@ -79,19 +83,20 @@ module _ {L : Type 0} (look : L → Linked) where
     refusals = refl;
     number = refl;
     same_sessions = refl;
+    few = omega arith;
   }
 
   -- a further link was taken, served and handed back
   pub goes_on : (before now : WorkerState L) (offered handed : PortState L) (link went : L) (seat : SeatView) (coming : Option (List ℕ)) (ending : End)
-      → RunsOn before now → Offers now.port offered (next.Link link) → IsServed now.next (moment_of look now.seat link now.coming) (moment_of look seat went coming) ended
-      → TakesBack offered went ended handed
+      → RunsOn before now → Offers now.port offered (next.Link link) → IsServed now.next (moment_of look now.seat link now.coming) (moment_of look seat went coming) ending
+      → TakesBack offered went ending handed → now.next < now.sessions
       → RunsOn before (record now { port = handed; seat = seat; coming = coming; next = now.next + 1 })
-  goes_on before now offered handed link went seat coming ended runs offers served back =
+  goes_on before now offered handed link went seat coming ending runs offers served back below =
       let service : Service L = record { came = link; went = went; ended = ending } in
       record {
         services = runs.services ++ service ∷ [];
         served = serves_last 0 before.seat before.coming runs.services service now.seat now.coming seat coming runs.served
-          (subst (λ n. IsServed n (moment_of look now.seat link now.coming) (moment_of look seat went coming) ended) (omega (arith, runs.number)) served);
+          (subst (λ n. IsServed n (moment_of look now.seat link now.coming) (moment_of look seat went coming) ending) (omega (arith, runs.number)) served);
         links =
           runs.links
           ∙ (ap (λ port. links_then (map (λ s. s.came) runs.services) port.links) offers
@@ -100,17 +105,18 @@ module _ {L : Type 0} (look : L → Linked) where
           ∙ ap (λ front. links_then front handed.links) (sym (map_last (λ s. s.came) runs.services service)))));
         returned =
           ap (λ port. port.returned) back
-          ∙ (ap (λ returned. then_returned returned ((went, ended) ∷ [])) (sym (ap (λ port. port.returned) offers) ∙ runs.returned)
-          ∙ (returned_more before.port.returned (map (λ s. (s.went, s.ended)) runs.services) ((went, ended) ∷ [])
+          ∙ (ap (λ returned. then_returned returned ((went, ending) ∷ [])) (sym (ap (λ port. port.returned) offers) ∙ runs.returned)
+          ∙ (returned_more before.port.returned (map (λ s. (s.went, s.ended)) runs.services) ((went, ending) ∷ [])
           ∙ ap (then_returned before.port.returned) (sym (map_last (λ s. (s.went, s.ended)) runs.services service))));
         faults = ap (λ port. port.faults) back ∙ (sym (ap (λ port. port.faults) offers) ∙ runs.faults);
         refusals = ap (λ port. port.refusals) back ∙ (sym (ap (λ port. port.refusals) offers) ∙ runs.refusals);
         number = omega (arith, runs.number, length-append runs.services (service ∷ []));
         same_sessions = runs.same_sessions;
+        few = omega (arith, below);
       }
 
   -- as many were served as may be
-  pub at_limit : (before now : WorkerState L) → RunsOn before now → now.next ≡ now.sessions → HasRun look before (record now { ended = worker_end.Limit })
+  pub at_limit : (before now : WorkerState L) → RunsOn before now → now.sessions ≤ now.next → HasRun look before (record now { ended = worker_end.Limit })
   at_limit before now runs all = record {
     services = runs.services;
     served = runs.served;
@@ -118,7 +124,7 @@ module _ {L : Type 0} (look : L → Linked) where
     returned = runs.returned;
     number = runs.number;
     same_sessions = runs.same_sessions;
-    ends = (sym runs.number ∙ (all ∙ runs.same_sessions), runs.faults, runs.refusals);
+    ends = (omega (arith, all, runs.few, runs.number, runs.same_sessions), runs.faults, runs.refusals);
   }
 
   -- no link is left

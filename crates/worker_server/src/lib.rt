@@ -8,6 +8,7 @@ mod desk;
 mod laws;
 mod memory;
 mod ports;
+mod probe;
 mod session;
 mod team;
 mod worker;

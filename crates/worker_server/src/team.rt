@@ -1,5 +1,6 @@
 //! Runs workers side by side.
 ghost use Rattle.std.specs.Prelude.{◌≡◌, All, map};
+ghost use Rattle.std.specs.Thread.{IsSend, IsSync};
 ghost use Rattle.arc_core.specs.Outside.{linked};
 ghost use Rattle.worker_server.specs.Ports.{port_state};
 ghost use Rattle.worker_server.specs.Workers.{worker_state, HasRun, AllRan, HaveServed, HasMet};
@@ -54,9 +55,16 @@ fn run_all<
     ensures own { All (λ w. w.seat.lock ≡ lock.now) workers.new }
 {
     let threads = workers.len().max(1);
-    for_each_mut(rt, workers, threads, &|_, worker: &mut Worker<E, P, C>| {
-        run_worker(rt, lock, worker)
-    });
+    let run = |_: usize, worker: &mut Worker<E, P, C>|
+        requires { IsSync R.row × IsSend E.row × IsSend P.row × IsSend C.row × (worker.now.seat.lock ≡ lock.now) }
+        ensures { HasRun
+            (λ link. linked (P.Link.left link) (P.Link.read_faults link) (P.Link.sent link) (P.Link.write_faults link) (P.Link.refusals link) (P.Link.agains link))
+            (worker_state (port_state (P.links worker.entry.now.port) (P.returned worker.entry.now.port) (P.faults worker.entry.now.port) (P.refusals worker.entry.now.port))
+            (C.coming worker.entry.now.clock) worker.entry.now.seat worker.entry.now.next worker.entry.now.sessions worker.entry.now.end)
+            (worker_state (port_state (P.links worker.exit.now.port) (P.returned worker.exit.now.port) (P.faults worker.exit.now.port) (P.refusals worker.exit.now.port))
+            (C.coming worker.exit.now.clock) worker.exit.now.seat worker.exit.now.next worker.exit.now.sessions worker.exit.now.end) }
+    { run_worker(rt, lock, worker) };
+    for_each_mut(rt, workers, threads, &run);
 }
 
 // The seat meets that of each worker.

@@ -9,7 +9,7 @@ use Rattle.worker_server.proofs.worker.run_worker.Given as goal
 abbrev pub invariant-loop-worker : goal.invariant-loop-worker
 invariant-loop-worker g l =
     let port = g.P.Port in
-    let link = g.P.Port-Link.Link in
+    let link = g.P.Link.Link in
     RunsOn (λ x. linked (link.left x) (link.read_faults x) (link.sent x) (link.write_faults x) (link.refusals x) (link.agains x))
     (worker_state (port_state (port.links l.fn.worker.port) (port.returned l.fn.worker.port) (port.faults l.fn.worker.port) (port.refusals l.fn.worker.port))
     (g.C.Clock.coming l.fn.worker.clock) l.fn.worker.seat l.fn.worker.next l.fn.worker.sessions l.fn.worker.end)
