@@ -1,14 +1,14 @@
 -- Of the calls of sessions that are numbered one after another, those with a number are that session's.
-use Rattle.std.proofs.Common.{◌≡◌, ◌≢◌, ◌⊎◌, ◌∙◌, ℕ, ◌+◌, ◌<◌, ◌≤◌, Bool, List, [], ◌∷◌, ◌++◌, length, filter, ◌==◌, cond, Option, refl, sym, ap, subst, inl, inr, arith, eq-eqb, ne_eqb}
+use Rattle.std.proofs.Common.{◌≡◌, ◌≢◌, ◌⊎◌, ◌∙◌, ℕ, ◌+◌, ◌<◌, ◌≤◌, List, [], ◌∷◌, ◌++◌, length, ◌==◌, cond, Option, refl, sym, ap, inl, inr, arith, eq-eqb, ne_eqb}
 use Rattle.std.specs.List.{AllByRecursion}
 use Rattle.std.proofs.lemmas.List.{append-nil, append_assoc}
 use Rattle.std.proofs.lemmas.List.Elements.{filter-append}
 use Rattle.arc_core.specs.History.{Entry}
 use Rattle.arc_core.specs.Outside.{Linked}
 use Rattle.turn_lock.specs.Seats.{SeatView}
-use Rattle.worker_server.specs.Sessions.{IsOf, IsServed}
-use Rattle.worker_server.specs.Workers.{Service, moment_of, ServesFrom}
-use Rattle.worker_server.specs.Apart.{session_calls, IsServedBy, AreServedBy, AreApart}
+use Rattle.worker_server.specs.Sessions.{IsOf}
+use Rattle.worker_server.specs.Workers.{Service, ServesFrom}
+use Rattle.worker_server.specs.Apart.{session_calls, AreServedBy, AreApart}
 
 calls-append : (session : ℕ) (front back : List Entry) → session_calls session (front ++ back) ≡ session_calls session front ++ session_calls session back
 calls-append session front back = filter-append (λ entry. entry.session == session) front back
@@ -67,15 +67,15 @@ module _ {L : Type 0} (look : L → Linked) where
             coming' = later;
             served = served;
             entries = sym (calls-append number entries rest.calls
-              ∙ (ap (λ es. es ++ session_calls number rest.calls) (all_its seat.number number entries own)
-              ∙ (ap (λ es. entries ++ es) (rest.no_others number (inl (omega arith))) ∙ append-nil entries)));
+                ∙ (ap (λ es. es ++ session_calls number rest.calls) (all_its seat.number number entries own)
+                ∙ (ap (λ es. entries ++ es) (rest.no_others number (inl (omega arith))) ∙ append-nil entries)));
           },
           still_by seat.number number entries (number + 1) rest.calls services (omega arith) own rest.each,
         );
         no_others = λ session out.
-          calls-append session entries rest.calls
-          ∙ (ap (λ es. es ++ session_calls session rest.calls) (none_other seat.number number session entries (apart session out) own)
-          ∙ rest.no_others session (beyond session out));
+            calls-append session entries rest.calls
+            ∙ (ap (λ es. es ++ session_calls session rest.calls) (none_other seat.number number session entries (apart session out) own)
+            ∙ rest.no_others session (beyond session out));
       }
     where
       apart : (session : ℕ) → (session < number) ⊎ (number + length (service ∷ services) ≤ session) → number ≢ session

@@ -1,5 +1,5 @@
 -- Workers that have run, and a seat that meets the others'.
-use Rattle.std.proofs.Common.{◌≡◌, ◌∙◌, ℕ, suc, ◌+◌, ◌<◌, ◌≤◌, List, [], ◌∷◌, ◌++◌, length, map, take, get_or, refl, sym, ap, subst, arith}
+use Rattle.std.proofs.Common.{◌≡◌, ◌∙◌, ℕ, suc, ◌+◌, ◌<◌, List, [], ◌∷◌, ◌++◌, length, map, take, get_or, refl, sym, ap, subst, arith}
 use Rattle.std.specs.List.{All, AllByRecursion}
 use Rattle.std.proofs.lemmas.Grind.{take_at_read}
 use Rattle.std.proofs.lemmas.List.{append-nil, append_assoc}
@@ -63,11 +63,22 @@ module _ {L W : Type 0} (look : L → Linked) (state : W → WorkerState L) wher
   same_seats (w ∷ workers) = ap (λ seats. (state w).seat ∷ seats) (same_seats workers)
 
   -- they have run, and then the first one has met the others
-  pub have_served : (before : List (WorkerState L)) (first first' : W) (others : List W) → state first ≡ record (state first') { seat = (state first).seat }
-      → AllRan look before (map state (first ∷ others)) → HasMet (state first).seat (map (λ w. (state w).seat) others) (state first').seat
-      → HaveServed look before (map state (first' ∷ others))
-  have_served before first first' others same ran met = (
-    (state first).seat,
-    subst (λ w. AllRan look before (w ∷ map state others)) same ran,
-    subst (λ seats. HasMet (state first).seat seats (state first').seat) (sym (same_seats others)) met,
-  )
+  pub have_served : (before : List (WorkerState L)) (workers : List W) (first first' : W) (others others' : List W) → workers ≡ first ∷ others → others' ≡ others
+      → state first ≡ record (state first') { seat = (state first).seat } → AllRan look before (map state workers)
+      → HasMet (state first).seat (map (λ w. (state w).seat) others) (state first').seat → HaveServed look before (map state (first' ∷ others'))
+  have_served before workers first first' others others' split same_others same ran met =
+      let parts : AllRan look before (map state (first ∷ others)) = subst (λ ws. AllRan look before (map state ws)) split ran in
+      let there : HaveServed look before (map state (first' ∷ others)) = (
+        (state first).seat,
+        subst (λ w. AllRan look before (w ∷ map state others)) same parts,
+        subst (λ seats. HasMet (state first).seat seats (state first').seat) (sym (same_seats others)) met,
+      ) in
+      subst (λ os. HaveServed look before (map state (first' ∷ os))) (sym same_others) there
+
+-- what holds of all workers holds of the first one, and of the others
+module _ {W : Type 0} (P : W → Type 0) (workers : List W) (first : W) (others : List W) (split : workers ≡ first ∷ others) (each : All P workers) where
+  pub of_first : P first
+  of_first = subst (All P) split each 0 first (omega arith)
+
+  pub of_others : All P others
+  of_others k d inside = subst (All P) split each (suc k) d (omega (arith, inside))

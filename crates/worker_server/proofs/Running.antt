@@ -4,13 +4,11 @@ use Rattle.std.proofs.lemmas.List.{append-nil, append_assoc, length-append}
 use Rattle.arc_core.specs.declared.ends.End.{End}
 use Rattle.arc_core.specs.Outside.{Rose, Linked}
 use Rattle.turn_lock.specs.Seats.{SeatView}
-use Rattle.worker_server.specs.declared.ports.Next.{Next}
 use Rattle.worker_server.specs.declared.ports.Next.TheVariants as next
-use Rattle.worker_server.specs.declared.worker.WorkerEnd.{WorkerEnd}
 use Rattle.worker_server.specs.declared.worker.WorkerEnd.TheVariants as worker_end
 use Rattle.worker_server.specs.Ports.{PortState, links_then, then_returned, Offers, TakesBack}
 use Rattle.worker_server.specs.Sessions.{IsServed}
-use Rattle.worker_server.specs.Workers.{Service, WorkerState, EndsFor, moment_of, ServesFrom, HasRun}
+use Rattle.worker_server.specs.Workers.{Service, WorkerState, moment_of, ServesFrom, HasRun}
 
 pub map_last : {A B : Type 0} (f : A → B) (xs : List A) (x : A) → map f (xs ++ x ∷ []) ≡ map f xs ++ f x ∷ []
 map_last f [] x = refl
@@ -40,11 +38,11 @@ module _ {L : Type 0} (look : L → Linked) where
       → ServesFrom look number seat coming (services ++ service ∷ []) seat' coming'
   serves_last number seat coming [] service middle later seat' coming' (same, still) last =
       let here : IsServed number (moment_of look middle service.came later) (moment_of look seat' service.went coming') service.ended =
-          subst (λ n. IsServed n (moment_of look middle service.came later) (moment_of look seat' service.went coming') service.ended) (omega arith) last in (
+      subst (λ n. IsServed n (moment_of look middle service.came later) (moment_of look seat' service.went coming') service.ended) (omega arith) last in (
         seat',
         coming',
         subst (λ c. IsServed number (moment_of look seat service.came c) (moment_of look seat' service.went coming') service.ended) still
-        (subst (λ s. IsServed number (moment_of look s service.came later) (moment_of look seat' service.went coming') service.ended) same here),
+            (subst (λ s. IsServed number (moment_of look s service.came later) (moment_of look seat' service.went coming') service.ended) same here),
         (refl, refl),
       )
   serves_last number seat coming (first ∷ services) service middle later seat' coming' (at, then, served, more) last =
@@ -96,18 +94,18 @@ module _ {L : Type 0} (look : L → Linked) where
       record {
         services = runs.services ++ service ∷ [];
         served = serves_last 0 before.seat before.coming runs.services service now.seat now.coming seat coming runs.served
-          (subst (λ n. IsServed n (moment_of look now.seat link now.coming) (moment_of look seat went coming) ending) (omega (arith, runs.number)) served);
+            (subst (λ n. IsServed n (moment_of look now.seat link now.coming) (moment_of look seat went coming) ending) (omega (arith, runs.number)) served);
         links =
-          runs.links
-          ∙ (ap (λ port. links_then (map (λ s. s.came) runs.services) port.links) offers
-          ∙ (links_more (map (λ s. s.came) runs.services) (link ∷ []) offered.links
-          ∙ (ap (links_then (map (λ s. s.came) runs.services ++ link ∷ [])) (sym (ap (λ port. port.links) back))
-          ∙ ap (λ front. links_then front handed.links) (sym (map_last (λ s. s.came) runs.services service)))));
+            runs.links
+            ∙ (ap (λ port. links_then (map (λ s. s.came) runs.services) port.links) offers
+            ∙ (links_more (map (λ s. s.came) runs.services) (link ∷ []) offered.links
+            ∙ (ap (links_then (map (λ s. s.came) runs.services ++ link ∷ [])) (sym (ap (λ port. port.links) back))
+            ∙ ap (λ front. links_then front handed.links) (sym (map_last (λ s. s.came) runs.services service)))));
         returned =
-          ap (λ port. port.returned) back
-          ∙ (ap (λ returned. then_returned returned ((went, ending) ∷ [])) (sym (ap (λ port. port.returned) offers) ∙ runs.returned)
-          ∙ (returned_more before.port.returned (map (λ s. (s.went, s.ended)) runs.services) ((went, ending) ∷ [])
-          ∙ ap (then_returned before.port.returned) (sym (map_last (λ s. (s.went, s.ended)) runs.services service))));
+            ap (λ port. port.returned) back
+            ∙ (ap (λ returned. then_returned returned ((went, ending) ∷ [])) (sym (ap (λ port. port.returned) offers) ∙ runs.returned)
+            ∙ (returned_more before.port.returned (map (λ s. (s.went, s.ended)) runs.services) ((went, ending) ∷ [])
+            ∙ ap (then_returned before.port.returned) (sym (map_last (λ s. (s.went, s.ended)) runs.services service))));
         faults = ap (λ port. port.faults) back ∙ (sym (ap (λ port. port.faults) offers) ∙ runs.faults);
         refusals = ap (λ port. port.refusals) back ∙ (sym (ap (λ port. port.refusals) offers) ∙ runs.refusals);
         number = omega (arith, runs.number, length-append runs.services (service ∷ []));
@@ -166,3 +164,13 @@ module _ {L : Type 0} (look : L → Linked) where
     same_sessions = runs.same_sessions;
     ends = (subst (λ n. Rose n port.refusals) runs.refusals rose, ap (λ p. p.faults) same ∙ runs.faults);
   }
+
+  -- a worker that has run has a seat of the same lock
+  pub same_lock_behind : (before after : WorkerState L) → HasRun look before after → after.seat.lock ≡ before.seat.lock
+  same_lock_behind before after ran = same_lock 0 before.seat before.coming ran.services after.seat after.coming ran.served
+
+  -- where the worker before and the worker behind are known by other names
+  pub ran_by_names : {W : Type 0} (state : W → WorkerState L) (before before' after after' : W) → before ≡ before' → after ≡ after' → HasRun look (state before) (state after)
+      → HasRun look (state before') (state after')
+  ran_by_names state before before' after after' same same' ran =
+      subst (λ w. HasRun look (state before') (state w)) same' (subst (λ w. HasRun look (state w) (state after)) same ran)

@@ -1,5 +1,5 @@
 -- The requests that a desk over a lock has answered are calls of its seat.
-use Rattle.std.proofs.Common.{◌≡◌, ◌∙◌, ℕ, List, [], ◌∷◌, ◌++◌, refl, sym, ap, subst}
+use Rattle.std.proofs.Common.{◌≡◌, ◌∙◌, ℕ, List, [], ◌∷◌, ◌++◌, sym, ap, subst}
 use Rattle.std.specs.List.{AllByRecursion}
 use Rattle.std.proofs.lemmas.List.{append-nil, append_assoc}
 use Rattle.arc_core.specs.declared.ends.End.{End}
@@ -7,8 +7,7 @@ use Rattle.arc_core.specs.History.{Entry}
 use Rattle.pipe_session.specs.Desks.{Serves}
 use Rattle.pipe_session.specs.Outside.{Outside, Moment, moment}
 use Rattle.pipe_session.specs.Turns.{IsOver}
-use Rattle.turn_lock.specs.Calls.{Begins}
-use Rattle.turn_lock.specs.Seats.{SeatView, IsCalled}
+use Rattle.turn_lock.specs.Seats.{SeatView}
 use Rattle.worker_server.specs.Sessions.{IsOf, Calls, IsTrue, HasCalled, IsServed}
 
 -- no call was made

@@ -1,5 +1,5 @@
 -- What workers do: each serves the links of its port one after another, and all share one lock.
-use Rattle.std.specs.Prelude.{◌≡◌, ℕ, ◌+◌, List, [], ◌∷◌, ◌++◌, length, map, Option, IfSome}
+use Rattle.std.specs.Prelude.{◌≡◌, ℕ, ◌+◌, List, [], ◌∷◌, length, map, Option, IfSome}
 use Rattle.std.specs.List.{AllByRecursion}
 use Rattle.arc_core.specs.declared.ends.End.{End}
 use Rattle.arc_core.specs.Outside.{Rose, Linked}

@@ -8,7 +8,6 @@ mod desk;
 mod laws;
 mod memory;
 mod ports;
-mod probe;
 mod session;
 mod team;
 mod worker;

@@ -19,11 +19,9 @@ pub fn serve_all<
     E: Executor + Drop + Send,
     P: Port + Send,
     C: Clock + Send,
->(
-    rt: &R,
-    lock: &TurnLock<E>,
-    workers: &mut [Worker<E, P, C>],
-)
+>(rt: &R, lock: &TurnLock<E>, workers: &mut [Worker<E, P, C>])
+where
+    P::Link: Send,
     requires { All (λ w. w.seat.lock ≡ lock.now) workers.old }
     ensures { HaveServed
         (λ link. linked (P.Link.left link) (P.Link.read_faults link) (P.Link.sent link) (P.Link.write_faults link) (P.Link.refusals link) (P.Link.agains link))
@@ -37,16 +35,13 @@ pub fn serve_all<
 }
 
 // Runs all workers, each in a thread of its own.
-fn run_all<
-    R: Threads + Wait + Sync,
-    E: Executor + Drop + Send,
-    P: Port + Send,
-    C: Clock + Send,
->(
+fn run_all<R: Threads + Wait + Sync, E: Executor + Drop + Send, P: Port + Send, C: Clock + Send>(
     rt: &R,
     lock: &TurnLock<E>,
     workers: &mut [Worker<E, P, C>],
 )
+where
+    P::Link: Send,
     requires { All (λ w. w.seat.lock ≡ lock.now) workers.old }
     ensures ran { AllRan
         (λ link. linked (P.Link.left link) (P.Link.read_faults link) (P.Link.sent link) (P.Link.write_faults link) (P.Link.refusals link) (P.Link.agains link))

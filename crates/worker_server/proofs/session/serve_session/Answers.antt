@@ -1,4 +1,4 @@
-use Rattle.std.proofs.Common.{◌≡◌, ◌∙◌, sym, rules}
+use Rattle.std.proofs.Common.{◌∙◌, sym, rules}
 use Rattle.worker_server.proofs.Serving.{by_names}
 use Rattle.worker_server.proofs.session.serve_session.Goals as goal
 

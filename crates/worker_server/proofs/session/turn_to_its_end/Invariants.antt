@@ -1,4 +1,3 @@
-use Rattle.std.proofs.Common.{◌≡◌}
 use Rattle.arc_core.specs.Outside.{incoming, outgoing}
 use Rattle.pipe_session.specs.Outside.{moment, outside}
 use Rattle.pipe_session.specs.Turns.{Deeds, SoFar}
