@@ -28,3 +28,5 @@ mod pushes;
 mod rows;
 #[cfg(test)]
 mod sets;
+#[cfg(test)]
+mod workers;

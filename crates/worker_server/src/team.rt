@@ -13,7 +13,8 @@ use std::thread::{Threads, for_each_mut};
 use turn_lock::{Seat, TurnLock};
 
 /// Runs all workers at the same time, each in a thread of its own. When all have ended the first one's seat meets each
-/// other's: it has then seen all that any of them has. A worker for which no thread can be started runs in this one.
+/// other's: it has then seen all that any of them has. Workers for which no thread can be started run in another's, one
+/// after another. No worker at all is fine.
 pub fn serve_all<
     R: Threads + Wait + Sync,
     E: Executor + Drop + Send,
