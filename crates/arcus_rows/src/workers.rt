@@ -101,7 +101,7 @@ fn links_of(alloc: Global, rows: &[Row<'_>]) -> Result<Vec<MemoryLink>, AllocErr
 }
 
 // A worker to which these links come; the listed calls for a link fail.
-fn worker_of<L: Link>(
+fn worker_of<L: Link + Drop>(
     alloc: Global,
     seat: Seat<Cache>,
     links: Vec<L>,
