@@ -34,3 +34,5 @@ mod sets;
 mod turning;
 #[cfg(test)]
 mod turns;
+#[cfg(test)]
+mod workers;

@@ -1,0 +1,4 @@
+mod Serving
+mod Running
+mod Meeting
+mod Apart
