@@ -2,3 +2,4 @@ mod Serving
 mod Running
 mod Meeting
 mod Apart
+pub mod Replies
