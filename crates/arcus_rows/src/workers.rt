@@ -138,7 +138,12 @@ fn a_worker_serves_its_links_in_order(rt: HostRuntime) -> Result<(), Fail> {
     let returned = worker.port.returned();
     assert_eq!(rt; returned.len(), ROWS.len());
     for ((link, end), row) in returned.iter().zip(ROWS.iter()) {
-        expect_bytes(&rt, row.input, link.sent(), &bytes_of(rt.alloc(), row.output)?);
+        expect_bytes(
+            &rt,
+            row.input,
+            link.sent(),
+            &bytes_of(rt.alloc(), row.output)?,
+        );
         assert_eq!(rt; *end, row.end, "{}", row.input);
     }
     Ok(())
@@ -271,7 +276,9 @@ fn mark(seen: &mut [u32], text: &[u8]) {
     for &byte in text {
         match byte {
             b'0'..=b'9' => {
-                number = number.saturating_mul(10).saturating_add(usize::from(byte - b'0'));
+                number = number
+                    .saturating_mul(10)
+                    .saturating_add(usize::from(byte - b'0'));
             }
             b'\n' => {
                 if let Some(count) = seen.get_mut(number) {
