@@ -7,7 +7,7 @@ use Rattle.arc_core.specs.History.{Entry}
 use Rattle.arc_core.specs.Outside.{Linked}
 use Rattle.turn_lock.specs.Calls.{Begins}
 use Rattle.turn_lock.specs.Seats.{SeatView, IsMet}
-use Rattle.worker_server.specs.Sessions.{IsTrue}
+use Rattle.worker_server.specs.Sessions.{IsSound}
 use Rattle.worker_server.specs.Workers.{WorkerState, HasRun, HasMet, AllRan, HaveServed}
 use Rattle.worker_server.proofs.Running.{map_last}
 
@@ -25,7 +25,7 @@ one_more (first ∷ others) other seen is begins = (is.0, one_more others other 
 
 -- it has met none
 pub none_met : (seat : SeatView) → HasMet seat [] seat
-none_met seat = record { seat = refl; own = ([], sym (append-nil seat.seen)); theirs = tt; stays_true = λ is. is }
+none_met seat = record { seat = refl; own = ([], sym (append-nil seat.seen)); theirs = tt; stays_sound = λ is. is }
 
 -- it meets one more
 meets_one : (old : SeatView) (others : List SeatView) (now other next : SeatView) → HasMet old others now → IsMet now other next → HasMet old (others ++ other ∷ []) next
@@ -33,11 +33,11 @@ meets_one old others now other next has is = record {
   seat = is.seat ∙ ap (λ (s : SeatView). record s { seen = next.seen }) has.seat;
   own = begins_whole old.seen now.seen next.seen has.own is.own;
   theirs = one_more others other next.seen (still_begin others now.seen next.seen is.own has.theirs) is.other;
-  stays_true = λ _. subst IsTrue (sym is.seat) true_there;
+  stays_sound = λ _. subst IsSound (sym is.seat) sound_there;
 }
   where
-    true_there : IsTrue (record now { seen = next.seen })
-    true_there = record { legal = is.legal; own = is.calls }
+    sound_there : IsSound (record now { seen = next.seen })
+    sound_there = record { legal = is.legal; own = is.calls }
 
 -- it meets the next of these
 pub meets_next : {W : Type 0} (seat_of : W → SeatView) (old : SeatView) (all all' : List W) (place : ℕ) (one : W) (now next : SeatView) → all' ≡ all → place < length all

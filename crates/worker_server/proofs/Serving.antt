@@ -8,14 +8,14 @@ use Rattle.pipe_session.specs.Desks.{Serves}
 use Rattle.pipe_session.specs.Outside.{Outside, Moment, moment}
 use Rattle.pipe_session.specs.Turns.{IsOver}
 use Rattle.turn_lock.specs.Seats.{SeatView}
-use Rattle.worker_server.specs.Sessions.{IsOf, Calls, IsTrue, HasCalled, IsServed}
+use Rattle.worker_server.specs.Sessions.{IsOf, IsCallOf, IsSound, HasCalled, IsServed}
 
 -- no call was made
 none_called : (seat : SeatView) → HasCalled seat [] seat
 none_called seat = record {
   grown = ap (λ mine. record seat { mine = mine }) (sym (append-nil seat.mine));
   begins = ([], sym (append-nil seat.seen));
-  stays_true = λ is. is;
+  stays_sound = λ is. is;
 }
 
 -- what a seat knows behind one call
@@ -23,7 +23,7 @@ abbrev behind : SeatView → List Entry → Entry → SeatView
 behind from between entry = record from { seen = (from.seen ++ between) ++ entry ∷ []; mine = from.mine ++ entry ∷ [] }
 
 -- one call, and then these
-then_called : (from : SeatView) (between : List Entry) (entry : Entry) (entries : List Entry) (to : SeatView) → IsTrue (behind from between entry)
+then_called : (from : SeatView) (between : List Entry) (entry : Entry) (entries : List Entry) (to : SeatView) → IsSound (behind from between entry)
     → HasCalled (behind from between entry) entries to → HasCalled from (entry ∷ entries) to
 then_called from between entry entries to is called = record {
   grown = called.grown ∙ ap (λ mine. record from { seen = to.seen; mine = mine }) (append_assoc from.mine (entry ∷ []) entries);
@@ -31,22 +31,22 @@ then_called from between entry entries to is called = record {
     between ++ entry ∷ called.begins.0,
     called.begins.1 ∙ (append_assoc (from.seen ++ between) (entry ∷ []) called.begins.0 ∙ append_assoc from.seen between (entry ∷ called.begins.0)),
   );
-  stays_true = λ _. called.stays_true is;
+  stays_sound = λ _. called.stays_sound is;
 }
 
 module _ (session : ℕ) where
   -- calls that lead from the one to the other are those that the seat has made between
-  pub has_called : (from : SeatView) (entries : List Entry) (to : SeatView) → Serves (Calls session) from entries to → HasCalled from entries to
+  pub has_called : (from : SeatView) (entries : List Entry) (to : SeatView) → Serves (IsCallOf session) from entries to → HasCalled from entries to
   has_called from [] to is = subst (HasCalled from []) (sym is) (none_called from)
   has_called from (entry ∷ entries) to (middle, calls, more) =
       let called = calls.called in
       let at = behind from called.between entry in
-      let true_there : IsTrue at = record { legal = called.legal; own = called.own } in
+      let sound_there : IsSound at = record { legal = called.legal; own = called.own } in
       let later : HasCalled at entries to = subst (λ seat. HasCalled seat entries to) called.seat (has_called middle entries to more) in
-      then_called from called.between entry entries to true_there later
+      then_called from called.between entry entries to sound_there later
 
   -- each is the seat's and the session's
-  pub all_own : (from : SeatView) (entries : List Entry) (to : SeatView) → Serves (Calls session) from entries to → AllByRecursion (IsOf from.number session) entries
+  pub all_own : (from : SeatView) (entries : List Entry) (to : SeatView) → Serves (IsCallOf session) from entries to → AllByRecursion (IsOf from.number session) entries
   all_own from [] to is = tt
   all_own from (entry ∷ entries) to (middle, calls, more) =
       let same : middle.number ≡ from.number = ap (λ seat. seat.number) calls.called.seat in (
@@ -57,13 +57,13 @@ module _ (session : ℕ) where
 -- A desk over a seat: what it makes known of the seat, the name of its borrow, and its session.
 module _ {D : Type 0} (seat : D → SeatView) (name session : D → ℕ) where
   abbrev pub Answers : D → Entry → D → Type 0
-  Answers from entry to = Calls (session from) (seat from) entry (seat to) × (name to ≡ name from) × (session to ≡ session from)
+  Answers from entry to = IsCallOf (session from) (seat from) entry (seat to) × (name to ≡ name from) × (session to ≡ session from)
 
-  served : (number : ℕ) (from : D) (entries : List Entry) (to : D) → session from ≡ number → Serves Answers from entries to → Serves (Calls number) (seat from) entries (seat to)
+  served : (number : ℕ) (from : D) (entries : List Entry) (to : D) → session from ≡ number → Serves Answers from entries to → Serves (IsCallOf number) (seat from) entries (seat to)
   served number from [] to same is = ap seat is
   served number from (entry ∷ entries) to same (middle, answered, more) = (
     seat middle,
-    subst (λ n. Calls n (seat from) entry (seat middle)) same answered.0,
+    subst (λ n. IsCallOf n (seat from) entry (seat middle)) same answered.0,
     served number middle entries to (answered.2 ∙ same) more,
   )
 

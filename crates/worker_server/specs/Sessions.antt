@@ -15,12 +15,12 @@ pub record IsOf (seat session : ℕ) (entry : Entry) : Type 0 where
   pub second : entry.second < 2 ^ 32
 
 -- The entry is one call of this session at a seat, and leads from what the seat knew before to what it knows now.
-pub record Calls (session : ℕ) (from : SeatView) (entry : Entry) (to : SeatView) : Type 0 where
+pub record IsCallOf (session : ℕ) (from : SeatView) (entry : Entry) (to : SeatView) : Type 0 where
   pub own : IsOf from.number session entry
   pub called : IsCalled from entry to
 
--- What the seat has seen is legal, and what it has of the seat are the seat's own calls.
-pub record IsTrue (seat : SeatView) : Type 0 where
+-- What the seat has seen is legal, and what that has of the seat are the seat's own calls.
+pub record IsSound (seat : SeatView) : Type 0 where
   pub legal : IsLegal seat.opening seat.seen
   pub own : calls_of seat.number seat.seen ≡ seat.mine
 
@@ -29,12 +29,12 @@ pub record IsTrue (seat : SeatView) : Type 0 where
 pub record HasCalled (old : SeatView) (entries : List Entry) (new : SeatView) : Type 0 where
   pub grown : new ≡ record old { seen = new.seen; mine = old.mine ++ entries }
   pub begins : Begins old.seen new.seen
-  pub stays_true : IsTrue old → IsTrue new
+  pub stays_sound : IsSound old → IsSound new
 
 -- THE SESSION. Between the two moments a session with this number ran on a link and ended so. Its requests are calls of the
 -- seat, and the seat has made no others.
 pub record IsServed (session : ℕ) (before after : Moment SeatView) (ended : End) : Type 0 where
   -- the bytes that it took, its units, its entries, its text, what was sent of it, and the cause of its end
-  pub over : IsOver (Calls session) before after ended
+  pub over : IsOver (IsCallOf session) before after ended
   pub own : AllByRecursion (IsOf before.desk.number session) over.entries
   pub called : HasCalled before.desk over.entries after.desk

@@ -9,7 +9,7 @@ use Rattle.turn_lock.specs.Seats.{SeatView}
 use Rattle.worker_server.specs.declared.worker.WorkerEnd.{WorkerEnd}
 use Rattle.worker_server.specs.declared.worker.WorkerEnd.TheVariants as worker_end
 use Rattle.worker_server.specs.Ports.{PortState, links_then, then_returned}
-use Rattle.worker_server.specs.Sessions.{IsServed, IsTrue}
+use Rattle.worker_server.specs.Sessions.{IsServed, IsSound}
 
 -- One link that was served: as it came from the port, as it was handed back, and how its session ended.
 pub record Service (L : Type 0) : Type 0 where
@@ -52,7 +52,7 @@ pub record HasMet (old : SeatView) (others : List SeatView) (new : SeatView) : T
   pub seat : new ≡ record old { seen = new.seen }
   pub own : Begins old.seen new.seen
   pub theirs : AllByRecursion (λ other. Begins other.seen new.seen) others
-  pub stays_true : IsTrue old → IsTrue new
+  pub stays_sound : IsSound old → IsSound new
 
 -- What follows reads a link by what it tells: `look`.
 module _ {L : Type 0} (look : L → Linked) where

@@ -1,6 +1,6 @@
 //! A desk over a lock that many sessions share.
 ghost use Rattle.std.specs.Prelude.{◌≡◌, ⊤};
-ghost use Rattle.worker_server.specs.Sessions.{Calls};
+ghost use Rattle.worker_server.specs.Sessions.{IsCallOf};
 
 use arc_core::{Executor, Reply, Request};
 use pipe_session::Desk;
@@ -45,7 +45,7 @@ impl<'a, R: Wait, E: Executor + Drop> Desk for LockDesk<'a, R, E> {
 
     // It is still the same seat, and the same session.
     ghost answers = { λ from entry to.
-        Calls from.session from.seat.now entry to.seat.now
+        IsCallOf from.session from.seat.now entry to.seat.now
         × (to.seat.ghost_name ≡ from.seat.ghost_name) × (to.session ≡ from.session) };
 
     fn answer(&mut self, now: u32, request: &Request<'_>) -> Reply {
