@@ -34,5 +34,3 @@ mod sets;
 mod turning;
 #[cfg(test)]
 mod turns;
-#[cfg(test)]
-mod workers;
