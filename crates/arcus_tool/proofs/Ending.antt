@@ -112,6 +112,7 @@ pub goes_on : (p : Phase) (at : Standing) (deeds : Deeds) → IsWithin p at deed
 goes_on phase.Going at deeds within = refl
 goes_on phase.Quit at deeds within = refl
 goes_on phase.LineTooLong at deeds within = refl
+goes_on phase.Ended at deeds within = refl
 goes_on phase.Over at deeds within = absurd within
 
 -- what is left to do gets less with each turn
