@@ -23,14 +23,8 @@ mod long_session;
 #[cfg(test)]
 mod maps;
 #[cfg(test)]
-mod pipes;
-#[cfg(test)]
 mod pushes;
 #[cfg(test)]
 mod rows;
 #[cfg(test)]
 mod sets;
-#[cfg(test)]
-mod turning;
-#[cfg(test)]
-mod turns;
