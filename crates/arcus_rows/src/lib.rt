@@ -11,6 +11,8 @@ mod ample_memory;
 #[cfg(test)]
 mod bad_input;
 #[cfg(test)]
+mod cutting;
+#[cfg(test)]
 mod edge;
 #[cfg(test)]
 mod eviction;
@@ -23,8 +25,14 @@ mod long_session;
 #[cfg(test)]
 mod maps;
 #[cfg(test)]
+mod pipes;
+#[cfg(test)]
 mod pushes;
 #[cfg(test)]
 mod rows;
 #[cfg(test)]
 mod sets;
+#[cfg(test)]
+mod turning;
+#[cfg(test)]
+mod turns;

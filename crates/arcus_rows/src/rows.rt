@@ -7,7 +7,7 @@ use arcus_tool::Status;
 use std::test::Fail;
 
 // What is sent, and what is answered. Each session comes to its end.
-const ROWS: [(&str, &str); 16] = [
+pub(crate) const ROWS: [(&str, &str); 16] = [
     ("", ""),
     ("set a 5 0 3|abc|get a|", "STORED|VALUE a 5 3|abc|END|"),
     // A line may end with LF alone.
@@ -61,7 +61,7 @@ const ROWS: [(&str, &str); 16] = [
 ];
 
 // Lists, sets and maps.
-const ROWS_OF_COLLECTIONS: [(&str, &str); 9] = [
+pub(crate) const ROWS_OF_COLLECTIONS: [(&str, &str); 9] = [
     // A list that trims its tail: it is read at its ends and past them, and then filled from both.
     (
         "lop create l 0 0 5|lop insert l -1 1|a|lop insert l -1 1|b|lop insert l -1 1|c|lop insert l -1 1|d|lop insert l -1 1|e|lop get l -1..-3|lop get l 3..9|lop insert l 6 1|f|lop insert l 0 1|f|lop insert l 5 1|g|lop get l 0..-1|",
