@@ -1,5 +1,5 @@
 //! Ports over memory, which tell all that they hold: for tests, and for scripts of sessions.
-ghost use Rattle.std.specs.Prelude.{◌≡◌, ◌<◌, [], Some, vec_len, vec_capacity};
+ghost use Rattle.std.specs.Prelude.{◌≡◌, ◌<◌, ◌==◌, not, [], Some, vec_len, vec_capacity};
 
 use crate::ports::{Next, Port};
 use arc_core::{End, Link};
@@ -99,6 +99,13 @@ impl<L: Link> MemoryPort<L> {
         ensures { ⟦<MemoryPort<L> as Port>⟧.returned self.now ≡ Some result.now }
     {
         self.steady.returned()
+    }
+
+    /// Whether a call of `next` has failed.
+    pub fn has_failed(&self) -> bool
+        ensures { result ≡ not (⟦<MemoryPort<L> as Port>⟧.faults self.now == 0) }
+    {
+        self.faults != 0
     }
 }
 
