@@ -1,0 +1,3 @@
+mod Hiring
+mod Disbanding
+mod Running

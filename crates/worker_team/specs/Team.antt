@@ -1,0 +1,61 @@
+-- A team of workers at one lock: who is in it, and what it has done when all have ended.
+use Rattle.std.specs.Prelude.{◌≡◌, ◌⊎◌, ℕ, ◌+◌, ◌<◌, List, [], ◌∷◌, length, Option, None}
+use Rattle.arc_core.specs.CacheState.{CacheState}
+use Rattle.arc_core.specs.History.{Entry}
+use Rattle.arc_core.specs.Outside.{Linked}
+use Rattle.atomic_table.specs.Seated.{TableId}
+use Rattle.turn_lock.specs.Calls.{calls_of, LeadsTo}
+use Rattle.turn_lock.specs.Seats.{SeatView}
+use Rattle.worker_server.specs.declared.worker.WorkerEnd.TheVariants as worker_end
+use Rattle.worker_server.specs.Ports.{PortState}
+use Rattle.worker_server.specs.Workers.{worker_state, HasRun}
+use Rattle.worker_team.specs.declared.team.Member.{Member}
+
+-- A worker that has not run yet: its port, its clock, and how many sessions it serves at most.
+pub record Hired (P C : Type 0) : Type 0 where
+  pub port : P
+  pub clock : C
+  pub sessions : ℕ
+
+abbrev pub hired : {P C : Type 0} → P → C → ℕ → Hired P C
+hired port clock sessions = record { port = port; clock = clock; sessions = sessions }
+
+-- What contracts see of a team that has not run yet: the state that its executor stands for, who is in it, and for how many
+-- workers it has room.
+pub record TeamView (P C : Type 0) : Type 0 where
+  pub opening : CacheState
+  pub workers : List (Hired P C)
+  pub room : ℕ
+
+-- a seat of this lock that has this number and has made no calls
+abbrev pub fresh_seat : TableId → CacheState → ℕ → SeatView
+fresh_seat lock opening number = record { lock = lock; number = number; opening = opening; seen = []; mine = []; ended = []; register = None }
+
+-- What follows reads a link, a port and a clock by what they tell.
+module _ {L P C : Type 0} (look : L → Linked) (tell : P → PortState L) (coming : C → Option (List ℕ)) where
+  -- ONE WORKER, whose seat has this number. It has run, and its calls are those that the history has of its seat.
+  pub record HasWorked (lock : TableId) (opening : CacheState) (history : List Entry) (number : ℕ) (worker : Hired P C) (member : Member P) : Type 0 where
+    -- its seat and its clock when it had ended
+    pub seat : SeatView
+    pub later : Option (List ℕ)
+    pub ran : HasRun look (worker_state (tell worker.port) (coming worker.clock) (fresh_seat lock opening number) 0 worker.sessions worker_end.NotRun)
+        (worker_state (tell member.port) later seat member.served worker.sessions member.end)
+    pub own : calls_of number history ≡ seat.mine
+
+  -- so it is for each of these, whose seats are numbered from `number` on
+  abbrev pub AllHaveWorked : TableId → CacheState → List Entry → ℕ → List (Hired P C) → List (Member P) → Type 0
+  AllHaveWorked lock opening history number [] [] = Unit {0}
+  AllHaveWorked lock opening history number (worker ∷ workers) (member ∷ members) =
+      HasWorked lock opening history number worker member × AllHaveWorked lock opening history (number + 1) workers members
+  AllHaveWorked lock opening history number [] (member ∷ members) = ⊥
+  AllHaveWorked lock opening history number (worker ∷ workers) [] = ⊥
+
+  -- ONE HISTORY. The workers have run side by side, and there is one history from the state before to the state behind: each
+  -- reply and each state in it are those of the machine. It has the calls of each worker's seat, numbered from 1 on, and no
+  -- others.
+  pub record TeamHasWorked (opening : CacheState) (workers : List (Hired P C)) (closing : CacheState) (members : List (Member P)) : Type 0 where
+    pub lock : TableId
+    pub history : List Entry
+    pub legal : LeadsTo opening history closing
+    pub each : AllHaveWorked lock opening history 1 workers members
+    pub no_others : (number : ℕ) → (number ≡ 0) ⊎ (length workers < number) → calls_of number history ≡ []
