@@ -1,5 +1,5 @@
 //! The ports of all workers.
-ghost use Rattle.std.specs.Prelude.{◌≡◌, None};
+ghost use Rattle.std.specs.Prelude.{◌≡◌, None, IfSome};
 
 use crate::port::TcpPort;
 use arc_core::Failed;
@@ -33,7 +33,9 @@ impl<R: Net> TcpPorts<R> {
     }
 
     // A port that shares the socket, where there is one.
-    fn share(&self) -> Option<TcpPort<R::Listener>> {
+    fn share(&self) -> Option<TcpPort<R::Listener>>
+        ensures { IfSome result (λ port. port.faults ≡ 0) }
+    {
         let listener = self.listener.as_ref()?;
         match listener.try_clone() {
             Ok(own) => Some(TcpPort::new(own)),
