@@ -44,3 +44,7 @@ hires post_of lock seat seat' workers workers' worker main fresh split last more
           (subst (λ o. AreFresh lock o 1 (map post_of workers ++ post_of worker ∷ [])) (sym same)
           (fresh_last lock opening 1 (map post_of workers) (post_of worker) fresh is)),
     )
+
+pub map_through : {A B C : Type 0} (first : A → B) (second : B → C) (xs : List A) → map second (map first xs) ≡ map (λ x. second (first x)) xs
+map_through first second [] = refl
+map_through first second (x ∷ xs) = ap (λ ys. second (first x) ∷ ys) (map_through first second xs)

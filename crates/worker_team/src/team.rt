@@ -105,6 +105,30 @@ impl<E: Executor + Drop, P: Drop, C: Drop> Team<E, P, C> {
     }
 }
 
+impl<E: Executor + Drop, P: Drop, C: Drop> Team<E, P, C> {
+    /// Sends all workers away before they have run, and hands out what is left of each, in order.
+    pub fn dismiss(self) -> Vec<Member<P>>
+        ensures ports { map (λ m. m.port) result.items ≡ map (λ w. w.port) self.workers }
+    {
+        let Team {
+            alloc: _,
+            lock: _,
+            seat: _,
+            workers,
+            members,
+        } = self;
+        let mut members = members;
+        for worker in workers {
+            members.push_reserved(Member {
+                port: worker.port,
+                served: worker.next,
+                end: worker.end,
+            });
+        }
+        members
+    }
+}
+
 impl<E: Executor + Drop + Send, P: Port + Send + Drop, C: Clock + Send + Drop> Team<E, P, C>
 where
     P::Link: Send,

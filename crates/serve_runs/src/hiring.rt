@@ -1,0 +1,1 @@
+//! Hires a worker for each port.
