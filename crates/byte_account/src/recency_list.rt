@@ -77,6 +77,7 @@ impl<T: Weighs> RecencyList<T> {
     }
 
     /// Makes a place in front, for a key that has none. A refusal hands back what it was given and changes nothing.
+    #[inline(always)]
     pub(crate) fn put_first(
         &mut self,
         alloc: Global,

@@ -82,6 +82,7 @@ pub(crate) fn taken<'a>(flags: u32, rows: Seq<Row>, take: Take, removal: Removal
 }
 
 /// Puts an element last into an answer, by its name and its value.
+#[inline(always)]
 pub(crate) fn put_row(rows: &mut Seq<Row>, name: RowName, value: Value) -> Result<(), NoMemory>
     ensures { OnOk result (rows.new ≡ rows.old ++ (record { name = name; eflag = None; value = value }) ∷ []) }
 {
