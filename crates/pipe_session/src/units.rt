@@ -318,6 +318,7 @@ fn execute_alone<'a, D: Desk, C: Clock>(
 
 // Handles a key-value command with its block, where no run is open. (One of a function of its own, since most requests are
 // such ones.)
+#[inline(always)]
 fn execute_key_value_alone<'a, D: Desk, C: Clock>(
     desk: &mut D,
     clock: &mut C,
@@ -373,6 +374,7 @@ fn execute_any<'a, D: Desk, C: Clock>(
 
 // Has the request of a head and its block executed at the clock's second, and answers, or keeps its status where it stands
 // in a run of piped commands. A block that is not the keys or fields that its line names is answered by the session.
+#[inline(always)]
 fn execute<'a, D: Desk, C: Clock>(
     desk: &mut D,
     clock: &mut C,
