@@ -288,7 +288,7 @@ fn answer_alone<D: Desk, C: Clock>(
     }
 }
 
-// Handles a command on a collection with its block, where no run is open and it is no piped command.
+// Handles a head with its block, where no run is open and it is no piped command.
 fn execute_alone<'a, D: Desk, C: Clock>(
     desk: &mut D,
     clock: &mut C,
@@ -316,8 +316,8 @@ fn execute_alone<'a, D: Desk, C: Clock>(
     }
 }
 
-// Handles a key-value command with its block, where no run is open. (One of a function of its own, since most requests are
-// such ones.)
+// Handles a key-value command with its block, where no run is open. (Most requests are such ones, and a head of this kind
+// alone is passed on with fewer copies.)
 #[inline(always)]
 fn execute_key_value_alone<'a, D: Desk, C: Clock>(
     desk: &mut D,
