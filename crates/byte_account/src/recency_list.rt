@@ -66,6 +66,7 @@ impl<T: Weighs> RecencyList<T> {
 
     /// Puts something else into the key's place and hands out what stood there. Where the key has no place, hands back
     /// what it was given.
+    #[inline(always)]
     pub(crate) fn replace(&mut self, key: &[u8], place: Option<T>) -> Result<Option<T>, Option<T>>
         ensures old { MatchResult result (λ old. lookup (bytes_eq key.now) self.old ≡ Some old) (λ refused. (lookup (bytes_eq key.now) self.old ≡ None) × (refused ≡ place)) }
         ensures new { self.new ≡ set_value (bytes_eq key.now) self.old place }
@@ -77,6 +78,7 @@ impl<T: Weighs> RecencyList<T> {
     }
 
     /// Makes a place in front, for a key that has none. A refusal hands back what it was given and changes nothing.
+    #[inline(always)]
     pub(crate) fn put_first(
         &mut self,
         alloc: Global,

@@ -464,6 +464,7 @@ fn change_side<T: Weighs>(
 }
 
 // Puts something else into the key's place, on whichever side. Answers what was there.
+#[inline(always)]
 fn refill<T: Weighs>(
     list: &mut RecencyList<T>,
     sticky: &mut StickyTable<T>,

@@ -1,5 +1,5 @@
 -- What the calls of a step that names one key leave together.
-use Rattle.std.proofs.Common.{◌≡◌, ℕ, Bool, true, false, cond, not, List, [], ◌∷◌, length, Option, Some, None, pos, ◌-ℤ◌, refl, sym, ap, ◌∙◌, subst}
+use Rattle.std.proofs.Common.{◌≡◌, ℕ, Bool, true, false, cond, not, List, [], ◌∷◌, length, Option, Some, None, is_some, pos, ◌-ℤ◌, refl, sym, ap, ◌∙◌, subst}
 use Rattle.std.specs.Option.{option_map_or}
 use Rattle.arc_core.specs.Item.{Item, size_of, expiry_of, has_expired, is_sticky}
 use Rattle.arc_core.specs.Places.{Places, found, brought_to_front, without}
@@ -12,8 +12,17 @@ use Rattle.byte_account.proofs.MovedLaws.{touched-new, touched-anew, room-withou
 use Rattle.cache_engine.specs.declared.key_state.KeyState.{KeyState}
 use Rattle.cache_engine.specs.declared.key_state.KeyState.TheVariants as key_state
 use Rattle.cache_engine.specs.Changes.{evicted_for, IsPutBehind}
-use Rattle.cache_engine.specs.Starting.{key_state_of, live_of, moves, IsPutInStep}
+use Rattle.cache_engine.specs.Starting.{key_state_of, is_held, live_of, moves, IsPutInStep}
 use Rattle.cache_engine.proofs.ItemPlaces.{none_less, sticky_held}
+
+some_state : (late : Bool) → is_held (cond late key_state.Expired key_state.Live) ≡ true
+some_state true = refl
+some_state false = refl
+
+-- whether an item is held, by how its key stands
+pub held_by_state : (latest : ℕ) (o : Option Item) → is_held (key_state_of latest o) ≡ is_some o
+held_by_state latest None = refl
+held_by_state latest (Some item) = some_state (has_expired latest (expiry_of item))
 
 -- the places at the start of a step, by what is found under its key
 

@@ -1,5 +1,5 @@
 -- What a shelf that holds items has under a key, and what it holds after each change.
-use Rattle.std.proofs.Common.{◌≡◌, ℕ, Bool, true, false, List, Option, Some, None, option_map, bytes_eq, refl, sym, ap, ◌∙◌, subst}
+use Rattle.std.proofs.Common.{◌≡◌, ℕ, Bool, true, false, List, Option, Some, None, option_map, is_some, bytes_eq, refl, sym, ap, ◌∙◌, subst}
 use Rattle.std.specs.Option.{option_or, option_flatten}
 use Rattle.std.specs.Map.{lookup}
 use Rattle.std.specs.FinMap as finite
@@ -38,6 +38,19 @@ absent_by (Some x) p e h = absurd (let k : option_flatten p ≡ Some x = ap opti
 -- a place without an item is none
 pub absent : (key : List ℕ) (places : Places (Option Stored)) → IsFilled places → item_at key places ≡ None → found key places ≡ None
 absent key places filled h = absent_by (found key (items_of places)) (found key places) (found-filled key places filled) h
+
+-- where nothing is held there is no item, and where something is held there is a place
+pub none_held : (o : Option Stored) → is_some o ≡ false → o ≡ None
+none_held None e = refl
+none_held (Some x) e = absurd cc
+
+pub is_some_map : {A B : Type 0} (f : A → B) (o : Option A) → is_some (option_map f o) ≡ is_some o
+is_some_map f None = refl
+is_some_map f (Some x) = refl
+
+pub some_held : (p : Option (Option Stored)) → is_some (option_flatten p) ≡ true → is_some p ≡ true
+some_held None e = absurd cc
+some_held (Some p) e = refl
 
 held_by : (o : Option Stored) (p : Option (Option Stored)) (item : Stored) → p ≡ option_map put_in o → option_flatten p ≡ Some item → p ≡ Some (Some item)
 held_by None p item e h = absurd (let k : option_flatten p ≡ None = ap option_flatten e in cc)

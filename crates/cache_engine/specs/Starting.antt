@@ -20,6 +20,12 @@ abbrev pub key_state_of : ℕ → Option Item → KeyState
 key_state_of latest None = key_state.Absent
 key_state_of latest (Some item) = if has_expired latest (expiry_of item) then key_state.Expired else key_state.Live
 
+-- whether an item is held under a key that stands like this
+abbrev pub is_held : KeyState → Bool
+is_held key_state.Absent = false
+is_held key_state.Expired = true
+is_held key_state.Live = true
+
 -- the item, where it has not expired
 abbrev pub live_of : ℕ → Option Item → Option Item
 live_of latest None = None

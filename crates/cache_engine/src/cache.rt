@@ -118,6 +118,7 @@ impl Cache {
     }
 
     // Carries out what was planned for a key in this state.
+    #[inline(always)]
     fn carry_out(
         &mut self,
         now: u32,
@@ -142,6 +143,7 @@ impl Cache {
     }
 
     // Puts an item under a key in this state, where there is room, and lets the cas counter be this.
+    #[inline(always)]
     fn put(
         &mut self,
         now: u32,

@@ -1,5 +1,5 @@
 //! The held items in their places.
-ghost use Rattle.std.specs.Prelude.{◌≡◌, ◌≤◌, IfOk};
+ghost use Rattle.std.specs.Prelude.{◌≡◌, ◌≤◌, IfOk, is_some};
 ghost use Rattle.std.specs.Option.{option_map};
 ghost use Rattle.arc_core.specs.Item.{size_of, with_expiry};
 ghost use Rattle.arc_core.specs.Places.{empty_places, found, count_of, total_of, sticky_total_of, brought_to_front, without};
@@ -112,12 +112,13 @@ impl Items {
         self.shelf.clear();
     }
 
-    /// Puts an item under the key, behind as few evictions as make room for it.
-    pub fn put(&mut self, key: &KeyRef<'_>, item: Stored) -> Put
+    /// Puts an item under the key, under which one is held or not, behind as few evictions as make room for it.
+    pub fn put(&mut self, key: &KeyRef<'_>, item: Stored, held: bool) -> Put
+        requires { held ≡ is_some (found key.now self.old) }
         ensures { Puts key.now (item_of item) self.old self.new result }
     {
         item.keep_the_rules();
-        put_item(&mut self.shelf, self.alloc, key, item)
+        put_item(&mut self.shelf, self.alloc, key, item, held)
     }
 
     /// Gives the item that is held under the key another expiry, and its place on the side where it belongs then.

@@ -4,7 +4,7 @@ ghost use Rattle.arc_core.specs.Places.{found};
 ghost use Rattle.arc_core.specs.CacheState.{ArePlaced};
 ghost use Rattle.arc_core.specs.Step.{unexpired, used};
 ghost use Rattle.cache_engine.specs.Stored.{held_item, item_of};
-ghost use Rattle.cache_engine.specs.Starting.{key_state_of, live_of, moves, IsLiveUnder, PutsInStep, SetsExpiryInStep, InsertsInStep, RemovesInStep};
+ghost use Rattle.cache_engine.specs.Starting.{key_state_of, is_held, live_of, moves, IsLiveUnder, PutsInStep, SetsExpiryInStep, InsertsInStep, RemovesInStep};
 ghost use Rattle.cache_engine.specs.Changes.{FitsUnder, IsUnder, SuitsUnder};
 
 use crate::expiring::has_expired;
@@ -72,7 +72,7 @@ pub fn put_and_use(
     ensures { PutsInStep latest key.now (item_of item) items.old items.new result }
 {
     let moves = moves_to_front(latest, key_state, item.expiry());
-    let put = items.put(key, item);
+    let put = items.put(key, item, is_held(key_state));
     match put {
         Put::Done if moves => items.mark_used(key.bytes()),
         Put::NoRoom => drop_expired(items, latest, key.bytes(), key_state),
@@ -137,6 +137,16 @@ pub fn remove_and_use(
         items.mark_used(key.bytes());
     }
     dropped
+}
+
+// Whether an item is held under a key in this state, if only one that has expired.
+fn is_held(key_state: KeyState) -> bool
+    ensures { result ≡ is_held key_state }
+{
+    match key_state {
+        KeyState::Absent => false,
+        KeyState::Expired | KeyState::Live => true,
+    }
 }
 
 // Whether an item that was put under a key in this state moves to the front of the shelf. (In a new place it

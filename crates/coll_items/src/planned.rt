@@ -60,6 +60,7 @@ pub(crate) fn answered<'a>(word: Word) -> Planned<'a>
 }
 
 /// A read that answers these elements, which are taken out by the removal where `take` says so.
+#[inline(always)]
 pub(crate) fn taken<'a>(flags: u32, rows: Seq<Row>, take: Take, removal: Removal<'a>) -> Planned<'a>
     ensures { IsTaken flags rows take removal.entry result }
 {

@@ -1,8 +1,9 @@
 -- A front of what is owed is sent, and then another.
-use Rattle.std.proofs.Common.{◌≡◌, ◌+◌, ◌-◌, ℕ, List, [], ◌++◌, take, drop, Result, Ok, Err, refl, sym, ap, ◌∙◌, subst, append_assoc, arith, is_some, false, Some, None, Option}
-use Rattle.std.proofs.lemmas.List.{take-append-drop, drop-drop}
+use Rattle.std.proofs.Common.{◌≡◌, ◌+◌, ◌-◌, ℕ, List, [], ◌++◌, take, drop, Result, Ok, Err, refl, sym, ap, ◌∙◌, subst, append_assoc, arith, is_some, Bool, true, false, Some, None, Option}
+use Rattle.std.proofs.lemmas.List.{append-nil, take-append-drop, drop-drop}
 use Rattle.arc_core.specs.declared.replies.Reply.{Reply}
 use Rattle.arc_core.specs.Outside.{Rose, Outgoing, then_sent}
+use Rattle.reply_print.specs.Waiting.{IsPut}
 use Rattle.reply_print.specs.Writing.{IsSentFrom, CountsStay}
 use Rattle.pipe_session.specs.declared.owed.Unsent.{Unsent}
 use Rattle.pipe_session.specs.declared.owed.Unsent.TheVariants as unsent
@@ -36,6 +37,20 @@ upto_taken before after owed piece owed' n same is rest = record {
   parts = sym (ap (λ o. take n owed ++ o) rest ∙ take-append-drop n owed);
   sent = is ∙ ap (λ p. then_sent before.sent (take n p)) same;
 }
+
+-- a text that was put whole, or not at all
+pub put_whole : (waiting waiting' text : List ℕ) (put : Bool) → IsPut waiting waiting' text put → put ≡ true → waiting' ≡ waiting ++ text
+put_whole waiting waiting' text true is e = is
+put_whole waiting waiting' text false is e = absurd cc
+
+pub put_nothing : (waiting waiting' text : List ℕ) (put : Bool) → IsPut waiting waiting' text put → put ≡ false → waiting' ≡ waiting
+put_nothing waiting waiting' text true is e = absurd cc
+put_nothing waiting waiting' text false is e = is.0
+
+-- where nothing is owed behind those that wait, it is the last that is owed
+pub put_seen : (waiting waiting' rest text : List ℕ) → rest ≡ [] → waiting' ≡ waiting ++ text → waiting' ++ rest ≡ (waiting ++ rest) ++ text
+put_seen waiting waiting' rest text none is =
+    ap (λ r. waiting' ++ r) none ∙ append-nil waiting' ∙ is ∙ ap (λ w. w ++ text) (sym (append-nil waiting) ∙ ap (λ r. waiting ++ r) (sym none))
 
 -- a text was written up to an offset
 pub upto_written : (before after : Outgoing) (text : List ℕ) (from upto : ℕ) → IsSentFrom before.sent after.sent text from upto → SentUpto before after (drop from text) (drop upto text)

@@ -127,16 +127,24 @@ impl Owed {
         }
     }
 
-    /// Owes the text of a reply behind all else.
-    pub fn put(&mut self, reply: Reply)
+    /// Owes the text of a reply behind all else, where it has room among the texts that wait, and tells whether it has.
+    /// Else nothing has changed.
+    pub fn put_waiting(&mut self, reply: &Reply) -> bool
+        requires { HasRoom self.old }
+        ensures text { result ≡ true → self.new.text ≡ self.old.text ++ reply_text reply.now }
+        ensures same { result ≡ false → self.new ≡ self.old }
+        ensures run { self.new.run ≡ self.old.run }
+    {
+        self.waiting.put(reply)
+    }
+
+    /// Owes the text of a reply behind all else, and then no further text has room.
+    pub fn put_long(&mut self, reply: Reply)
         requires room { HasRoom self.old }
         requires fits { length (reply_text reply) < 2 ^ 64 }
         ensures text { self.new.text ≡ self.old.text ++ reply_text reply }
         ensures run { self.new.run ≡ self.old.run }
     {
-        if self.waiting.put(&reply) {
-            return;
-        }
         self.long = Some(reply);
         self.at = 0;
     }
@@ -147,7 +155,10 @@ impl Owed {
         ensures text { self.new.text ≡ self.old.text ++ word_line word }
         ensures run { self.new.run ≡ self.old.run }
     {
-        self.put(Reply::Word(word));
+        let reply = Reply::Word(word);
+        if !self.put_waiting(&reply) {
+            self.put_long(reply);
+        }
     }
 
     /// Sends so much of what is owed that a further text has room.

@@ -1,6 +1,7 @@
 //! Handles the units of a session.
 ghost use Rattle.std.specs.Prelude.{◌≡◌, ◌<◌, ◌≤◌, ◌^◌, ◌++◌, ℕ, List, [], length, true, false, is_some, if◌then◌else◌, Option, Some, None, IfSome};
 ghost use Rattle.arc_core.specs.Framing.{IsSpan};
+ghost use Rattle.arc_core.specs.declared.coll_commands.CollHead.TheVariants as coll_head;
 ghost use Rattle.arc_core.specs.CollectionLines.{CanBeSpelled, IsCollHead, coll_is_quit, coll_line_is_silent, coll_line_needs, coll_need_of};
 ghost use Rattle.arc_core.specs.Grammar.{Meets};
 ghost use Rattle.arc_core.specs.PlainRequest.{plain, plain_act};
@@ -19,8 +20,8 @@ use crate::desk::Desk;
 use crate::owed::Owed;
 use crate::phase::Phase;
 use arc_core::{
-    Act, Answer, BlockFault, Clock, CollCommand, CollHead, Need, PipeStatus, Reply, Request, Word,
-    WordIter,
+    Act, Answer, BlockFault, Clock, CollCommand, CollHead, Head, Need, PipeStatus, Reply, Request,
+    Word, WordIter,
 };
 use coll_grammar::{AllHeads, LineFault, join, read_head};
 use frame_reader::{Frames, Unit, front_block, front_line, fronts_are_units};
@@ -278,8 +279,12 @@ fn answer_alone<D: Desk, C: Clock>(
         × (owed.new.text ≡ owed.old.text ++ (if silent then [] else reply_text reply)) × (owed.new.run ≡ owed.old.run) }
 {
     let reply = answer(desk, clock, request);
-    if !silent {
-        owed.put(reply);
+    if silent {
+        return;
+    }
+    // (A short reply stays where it is. A long one is moved.)
+    if !owed.put_waiting(&reply) {
+        owed.put_long(reply);
     }
 }
 
@@ -311,9 +316,39 @@ fn execute_alone<'a, D: Desk, C: Clock>(
     }
 }
 
-// Has the request of a head and its block executed at the clock's second, and answers, or keeps its status where it stands
-// in a run of piped commands. A block that is not the keys or fields that its line names is answered by the session.
-fn execute<'a, D: Desk, C: Clock>(
+// Handles a key-value command with its block, where no run is open. (Most requests are such ones, and a head of this kind
+// alone is passed on with fewer copies.)
+#[inline(always)]
+fn execute_key_value_alone<'a, D: Desk, C: Clock>(
+    desk: &mut D,
+    clock: &mut C,
+    owed: &mut Owed,
+    head: Head<'a>,
+    block: &'a [u8],
+)
+    requires ready { D.ready desk.old }
+    requires room { owed.old.is_full ≡ false }
+    requires spelled { (line : List ℕ) × IsCollHead line (coll_head.KeyValue head) }
+    requires block { Meets (coll_need_of (coll_head.KeyValue head)) block.now }
+    requires goes_on { coll_is_quit (coll_head.KeyValue head) ≡ false }
+    ensures told { IsToldAlone D.answers (TellsHead (coll_head.KeyValue head.entry) block.now)
+        (stand desk.old (C.coming clock.old) owed.old.text owed.old.run) (stand desk.new (C.coming clock.new) owed.new.text owed.new.run) }
+    ensures run { owed.new.run ≡ owed.old.run }
+{
+    let silent = head.is_silent();
+    match head.with_block(block) {
+        Ok(request) => answer_alone(desk, clock, owed, &request, silent),
+        Err(BlockFault) => {
+            if !silent {
+                owed.put_word(Word::BadChunk);
+            }
+        }
+    }
+}
+
+// Handles a head where a run is open, or where it is a command on a collection: it may be a piped command.
+#[inline(never)]
+fn execute_any<'a, D: Desk, C: Clock>(
     desk: &mut D,
     clock: &mut C,
     owed: &mut Owed,
@@ -334,6 +369,33 @@ fn execute<'a, D: Desk, C: Clock>(
         execute_behind_run(desk, clock, owed, head, block);
     } else {
         execute_alone(desk, clock, owed, head, block);
+    }
+}
+
+// Has the request of a head and its block executed at the clock's second, and answers, or keeps its status where it stands
+// in a run of piped commands. A block that is not the keys or fields that its line names is answered by the session.
+#[inline(always)]
+fn execute<'a, D: Desk, C: Clock>(
+    desk: &mut D,
+    clock: &mut C,
+    owed: &mut Owed,
+    head: CollHead<'a>,
+    block: &'a [u8],
+)
+    requires ready { D.ready desk.old }
+    requires room { owed.old.is_full ≡ false }
+    requires spelled { (line : List ℕ) × IsCollHead line head }
+    requires block { Meets (coll_need_of head) block.now }
+    requires goes_on { coll_is_quit head ≡ false }
+    ensures { IsTold D.answers (head_facts head.entry block.now)
+        (stand desk.old (C.coming clock.old) owed.old.text owed.old.run) (stand desk.new (C.coming clock.new) owed.new.text owed.new.run) }
+{
+    if owed.is_in_run() {
+        return execute_any(desk, clock, owed, head, block);
+    }
+    match head {
+        CollHead::KeyValue(head) => execute_key_value_alone(desk, clock, owed, head, block),
+        head => execute_any(desk, clock, owed, head, block),
     }
 }
 

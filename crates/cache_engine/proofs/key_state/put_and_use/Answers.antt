@@ -1,8 +1,13 @@
 use Rattle.std.proofs.Common.{sym, refl, subst, ap, ◌∙◌}
 use Rattle.cache_engine.specs.Stored.{item_of}
-use Rattle.cache_engine.specs.Starting.{PutsInStep, moves}
-use Rattle.cache_engine.proofs.Finishing.{put_done, no_room}
+use Rattle.arc_core.specs.Places.{found}
+use Rattle.cache_engine.specs.Starting.{PutsInStep, is_held, moves}
+use Rattle.cache_engine.proofs.Finishing.{put_done, held_by_state, no_room}
 use Rattle.cache_engine.proofs.key_state.put_and_use.Goals as goal
+
+pub put-put-requires : goal.put-put-requires
+put-put-requires c =
+    c.is_held.ensures ∙ ap is_held c.requires.key_state ∙ held_by_state c.args.latest (found c.args.key.now c.args.items.now)
 
 pub returns-in-Done : goal.returns-in-Done
 returns-in-Done c =
