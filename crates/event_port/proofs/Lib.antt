@@ -1,0 +1,7 @@
+mod Clocks
+mod Past
+mod Sessions
+mod Calls
+mod Lists
+mod Floors
+mod Ending

@@ -1,0 +1,4 @@
+pub mod Pollers
+pub mod Desks
+pub mod Moves
+pub mod Running

@@ -1,0 +1,16 @@
+//! Event workers, which serve many links at once, and the real sockets.
+//!
+//! `pollers.rt` has what tells a worker which links are ready, and `memory.rt` one over memory; `desk.rt` what a session's
+//! requests go to, `guests.rt` the links that are open, `turning.rt` the turns of one, `floor.rt` how they come and go, and
+//! `events.rt` the worker.
+#![tactic(auto)]
+
+mod desk;
+mod events;
+mod floor;
+mod guests;
+mod pollers;
+mod turning;
+
+pub use events::run_events;
+pub use pollers::{Poller, Wake};
