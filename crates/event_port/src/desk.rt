@@ -11,7 +11,9 @@ use turn_lock::{Seat, TurnLock};
 /// What a session was answered before and is still to be told: nothing. It has no bytes. Contracts see it as a list of
 /// entries, so that they can speak of a desk which has the earlier answers of a session before it.
 #[derive(Drop)]
-pub(crate) struct Past;
+pub(crate) struct Past {
+    nothing: (),
+}
 
 impl Model for Past {
     ghost use Rattle.std.specs.Prelude.{List, []};
@@ -26,7 +28,9 @@ impl Past {
     /// Does nothing, and tells contracts that nothing is still to be told.
     pub(crate) fn is_nothing(&self)
         ensures { self.now ≡ [] }
-    {}
+    {
+        self.nothing
+    }
 }
 
 /// What the requests of one of many sessions go to in one turn: a lock, through the seat that all share.
@@ -54,7 +58,7 @@ impl<'a, R: Wait, E: Executor + Drop> GuestDesk<'a, R, E> {
         ensures same_seat { result.seat.ghost_name ≡ seat.entry.ghost_name }
         ensures past { result.past ≡ [] }
     {
-        let past = Past;
+        let past = Past { nothing: () };
         past.is_nothing();
         GuestDesk {
             rt,
