@@ -13,8 +13,10 @@ use Rattle.pipe_session.specs.declared.phase.Phase.TheVariants as phase
 use Rattle.pipe_session.specs.Desks.{Serves, TicksThrough}
 use Rattle.pipe_session.specs.Ends.{ReadToEnd, Ends, CountsOnly}
 use Rattle.pipe_session.specs.Outside.{Moment, moment, outside}
-use Rattle.pipe_session.specs.Turns.{Standing, Deeds, SoFar, IsOver, TurnLeaves, IsWithin, is_over}
+use Rattle.pipe_session.specs.Turns.{Standing, Deeds, SoFar, IsOver, TurnLeaves, IsFresh, IsAtEnd, IsWithin, TellsNow, is_over, no_deeds}
 use Rattle.arc_core.specs.Outside.{Incoming, Outgoing, Linked}
+use Rattle.pipe_session.proofs.Texts.{sent_no_more}
+use Rattle.pipe_session.proofs.Ending.{took_nothing}
 use Rattle.turn_lock.specs.Seats.{SeatView}
 use Rattle.worker_server.specs.Sessions.{IsCallOf}
 use Rattle.worker_server.proofs.Serving.{has_called, all_own}
@@ -217,3 +219,19 @@ module _ {L : Type 0} (look : L → Linked) (came : L) where
       by_phase phase.LineTooLong is = refl
       by_phase phase.Ended is = refl
       by_phase phase.Over is = absurd is
+
+-- a fresh session has done nothing
+pub fresh_alone : (into : Incoming) (out : Outgoing) (at : Standing) → IsFresh at → SoFar AnyAnswer (alone into out) (alone into out) at no_deeds
+fresh_alone into out at fresh = record {
+  took = took_nothing into.left;
+  no_fault = refl;
+  number = sym fresh.nothing_taken;
+  within = subst (λ p. IsWithin p at no_deeds) (sym fresh.going)
+      (record { tail = []; spans = sym fresh.nothing_ahead; stands = fresh.unread.stands; none_final = tt });
+  at_end = subst (λ p. IsAtEnd p into []) (sym fresh.going) tt;
+  tells = subst (λ p. TellsNow p at.run [] [] []) (sym fresh.going) ([], [], refl, (refl, refl), (fresh.not_in_run, refl));
+  served = refl;
+  seconds = refl;
+  parts = sym fresh.nothing_owed;
+  sent = sym (sent_no_more out);
+}

@@ -55,6 +55,35 @@ pub record MadeCalls (number : ℕ) (more : List Entry) (seat seat' : SeatView) 
   pub own : AllByRecursion (IsOf seat.number number) more
   pub seconds : TicksThrough coming more coming'
 
+module _ {L : Type 0} where
+  -- no guest has this number
+  abbrev pub HasNone : Slab (Guest L) → ℕ → Type 0
+  HasNone guests number = (key : ℕ) (guest : Guest L) → get guests key ≡ Some guest → guest.number ≢ number
+
+  -- a number that was handed back, or turned away, is no guest's
+  abbrev pub IsGone : Slab (Guest L) → ℕ → Move L → Type 0
+  IsGone guests came (takes_on number link) = Unit {0}
+  IsGone guests came (hands_back number link ended) = (number < came) × HasNone guests number
+  IsGone guests came (turns_away number link) = (number < came) × HasNone guests number
+
+  -- Each link that came back, and no other thing of the poller but how many are out.
+  abbrev pub OnlyReturns : (before after : PollerState L) → Type 0
+  OnlyReturns before after = after.port ≡ record before.port { returned = after.port.returned }
+
+  -- what one wake leaves of the poller, by whether the worker goes on
+  abbrev pub GoesOnOrEnds : (before after : PollerState L) → Floor L → Option WorkerEnd → Type 0
+  GoesOnOrEnds before after floor None = SameFaults before.port after.port × SameRefusals before.port after.port
+  GoesOnOrEnds before after floor (Some ended) = EndsFor ended floor.taken_on floor.limit before.port after.port
+
+  -- The guest with this key was handed back with this end.
+  pub record HandsBack (old : Floor L) (before : PollerState L) (key : ℕ) (ended : End) (new : Floor L) (after : PollerState L) : Type 0 where
+    pub guest : Guest L
+    pub was : get old.guests key ≡ Some guest
+    pub updates : Updates old.guests new.guests key None
+    pub fewer : slab_len new.guests + 1 ≡ slab_len old.guests
+    pub numbers : SameNumbers old new
+    pub taken : TakesIn before guest.link ended after
+
 module _ {L : Type 0} (look : L → Linked) where
   -- the session on this link has been answered so since the link came
   abbrev pub StandsAt : (came link : L) → Standing → List Entry → Type 0
@@ -77,16 +106,6 @@ module _ {L : Type 0} (look : L → Linked) where
   abbrev pub WorkedTo : (came : L) → Guest L → List Entry → Option End → Type 0
   WorkedTo came guest told None = StandsAt came guest.link guest.session told
   WorkedTo came guest told (Some ended) = IsOverWith came guest.link ended told
-
-  -- no guest has this number
-  abbrev pub HasNone : Slab (Guest L) → ℕ → Type 0
-  HasNone guests number = (key : ℕ) (guest : Guest L) → get guests key ≡ Some guest → guest.number ≢ number
-
-  -- a number that was handed back, or turned away, is no guest's
-  abbrev pub IsGone : Slab (Guest L) → ℕ → Move L → Type 0
-  IsGone guests came (takes_on number link) = Unit {0}
-  IsGone guests came (hands_back number link ended) = (number < came) × HasNone guests number
-  IsGone guests came (turns_away number link) = (number < came) × HasNone guests number
 
   -- One guest: when it came, and what its session has done since.
   pub record IsGuest (moves : List (Move L)) (calls : List Entry) (next : ℕ) (present : List ℕ) (guest : Guest L) : Type 0 where
@@ -117,21 +136,3 @@ module _ {L : Type 0} (look : L → Linked) where
     pub gone : AllByRecursion (IsGone floor.guests floor.came) moves
     pub within : floor.taken_on ≤ floor.limit
     pub few : length present ≤ 1024
-
-  -- Each link that came back, and no other thing of the poller but how many are out.
-  abbrev pub OnlyReturns : (before after : PollerState L) → Type 0
-  OnlyReturns before after = after.port ≡ record before.port { returned = after.port.returned }
-
-  -- what one wake leaves of the poller, by whether the worker goes on
-  abbrev pub GoesOnOrEnds : (before after : PollerState L) → Floor L → Option WorkerEnd → Type 0
-  GoesOnOrEnds before after floor None = SameFaults before.port after.port × SameRefusals before.port after.port
-  GoesOnOrEnds before after floor (Some ended) = EndsFor ended floor.taken_on floor.limit before.port after.port
-
-  -- The guest with this key was handed back with this end.
-  pub record HandsBack (old : Floor L) (before : PollerState L) (key : ℕ) (ended : End) (new : Floor L) (after : PollerState L) : Type 0 where
-    pub guest : Guest L
-    pub was : get old.guests key ≡ Some guest
-    pub updates : Updates old.guests new.guests key None
-    pub fewer : slab_len new.guests + 1 ≡ slab_len old.guests
-    pub numbers : SameNumbers old new
-    pub taken : TakesIn before guest.link ended after

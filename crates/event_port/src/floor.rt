@@ -102,11 +102,18 @@ fn take_on<Q: Poller>(
     }) {
         Ok(key) => Some(key),
         Err(failed) => {
-            let Guest { link, .. } = failed.value;
-            poller.done(link, End::NoMemory);
+            poller.done(link_of(failed.value), End::NoMemory);
             None
         }
     }
+}
+
+// The link of a guest whose session is not needed.
+fn link_of<L>(guest: Guest<L>) -> L
+    ensures { result ≡ guest.link }
+{
+    let Guest { link, .. } = guest;
+    link
 }
 
 // Hands the link of a guest back with this end, and keeps its session for a further link, where memory is there.
