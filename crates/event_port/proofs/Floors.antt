@@ -499,6 +499,9 @@ module _ {L : Type 0} (look : L → Linked) where
       empty : runs.present ≡ []
       empty = nil_of runs.present (sym runs.size ∙ none)
 
+pub takes_same : {L : Type 0} (before after : PollerState L) (link link' : L) (ending : End) → link ≡ link' → TakesIn before link ending after → TakesIn before link' ending after
+takes_same before after link link' ending same = subst (λ l. TakesIn before l ending after) same
+
 -- a value was written at a key that has one
 pub same_count : {X : Type 0} (slots : List (Option X)) (key : ℕ) (old new : X) → get_or slots key None ≡ Some old → count_by is_some (set slots key (Some new)) ≡ count_by is_some slots
 same_count [] key old new at = refl

@@ -5,7 +5,7 @@ use Rattle.event_port.specs.declared.guests.Guest.{Guest}
 use Rattle.event_port.specs.Pollers.{TakesIn}
 use Rattle.slab.specs.Slab.{Slab, get, slab_len}
 use Rattle.event_port.proofs.Sessions.{fresh_alone}
-use Rattle.event_port.proofs.Floors.{untouched, taken_on}
+use Rattle.event_port.proofs.Floors.{untouched, taken_on, takes_same}
 use Rattle.event_port.proofs.floor.take_on.Goals as goal
 
 pub returns-in_default-clause-runs : goal.returns-in_default-clause-runs
@@ -28,4 +28,4 @@ returns-in-Err-clause-runs g c before now runs gives =
     let link = g.Q.Link.Link in
     let look : g.row.Q-Link.Denot → Linked = λ x. linked (link.left x) (link.read_faults x) (link.sent x) (link.write_faults x) (link.refusals x) (link.agains x) in
     let same = c.in-Err.ensures.err in
-    untouched look before now c.args.floor.now _ c.args.link _ _ runs gives (subst (λ l. TakesIn _ l end.NoMemory _) (c.link_of.ensures ∙ ap (λ x. x.link) c.in-Err.ensures.value_returned) c.done-in-Err.ensures) c.requires.room (λ key. ap (λ s. get s key) same) (ap slab_len same) (record { came = refl; taken_on = refl; limit = refl })
+    untouched look before now c.args.floor.now _ c.args.link _ _ runs gives (takes_same _ _ _ _ _ (c.link_of.ensures ∙ ap (λ x. x.link) c.in-Err.ensures.value_returned) c.done-in-Err.ensures) c.requires.room (λ key. ap (λ s. get s key) same) (ap slab_len same) (record { came = refl; taken_on = refl; limit = refl })
