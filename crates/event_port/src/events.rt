@@ -43,11 +43,17 @@ pub fn run_events<R: Wait, E: Executor + Drop, Q: Poller, C: Clock>(
     ensures { HasRunEvents (λ link. linked (Q.Link.left link) (Q.Link.read_faults link) (Q.Link.sent link) (Q.Link.write_faults link) (Q.Link.refusals link) (Q.Link.agains link)) (if sessions == 0 then 2 ^ 64 - 1 else sessions)
         (event_state (poller_state (port_state (Q.links poller.old) (Q.returned poller.old) (Q.faults poller.old) (Q.refusals poller.old)) (Q.held poller.old)) (C.coming clock.old) seat.old) (event_state (poller_state (port_state (Q.links poller.new) (Q.returned poller.new) (Q.faults poller.new) (Q.refusals poller.new)) (Q.held poller.new)) (C.coming clock.new) seat.new) result.0 result.1 }
 {
-    let limit = if sessions == 0 { u64::MAX } else { sessions };
-    let mut floor = Floor::new(alloc, limit);
+    let mut floor = Floor::new(alloc, most_sessions(sessions));
     let end = serve_links(rt, alloc, lock, seat, poller, clock, &mut floor);
     serve_the_rest(rt, lock, seat, poller, clock, &mut floor);
     (end, floor.taken_on)
+}
+
+// How many links are taken on at most.
+fn most_sessions(sessions: u64) -> u64
+    ensures { result ≡ (if sessions == 0 then 2 ^ 64 - 1 else sessions) }
+{
+    if sessions == 0 { u64::MAX } else { sessions }
 }
 
 // Serves links until the worker has a cause to end.
@@ -68,12 +74,13 @@ fn serve_links<R: Wait, E: Executor + Drop, Q: Poller, C: Clock>(
     ensures limit { floor.new.limit ≡ floor.old.limit }
     ensures own { seat.new.lock ≡ lock.now }
 {
-    for _ in 0..u64::MAX {
+    for _round in 0..u64::MAX {
         if floor.guests.is_empty() && floor.taken_on == floor.limit {
             return WorkerEnd::Limit;
         }
-        if let Some(end) = serve_wake(rt, alloc, lock, seat, poller, clock, floor) {
-            return end;
+        match serve_wake(rt, alloc, lock, seat, poller, clock, floor) {
+            Some(end) => return end,
+            None => {}
         }
     }
     // So many links never come.

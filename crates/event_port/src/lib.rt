@@ -9,8 +9,10 @@ mod desk;
 mod events;
 mod floor;
 mod guests;
+mod memory;
 mod pollers;
 mod turning;
 
 pub use events::run_events;
+pub use memory::{Cue, MemoryPoller};
 pub use pollers::{Poller, Wake};
