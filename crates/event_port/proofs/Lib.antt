@@ -5,3 +5,4 @@ mod Calls
 mod Lists
 mod Floors
 mod Ending
+mod Teams

@@ -2,3 +2,4 @@ pub mod Pollers
 pub mod Desks
 pub mod Moves
 pub mod Running
+pub mod Teams

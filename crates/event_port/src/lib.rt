@@ -11,8 +11,10 @@ mod floor;
 mod guests;
 mod memory;
 mod pollers;
+mod team;
 mod turning;
 
 pub use events::run_events;
 pub use memory::{Cue, MemoryPoller};
 pub use pollers::{Poller, Wake};
+pub use team::{EventWorker, serve_events};
