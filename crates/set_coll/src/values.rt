@@ -3,7 +3,6 @@ ghost use Rattle.std.specs.Prelude.{◌≡◌, ◌+◌, ◌%◌, ◌^◌, ◌≤
 ghost use Rattle.arc_core.specs.CollectionSize.{value_size, values_size};
 ghost use Rattle.arc_core.specs.SetReading.{place_of, AreDistinct};
 
-use crate::held::{HeldValue, Sought};
 use arc_core::NoMemory;
 use indexmap::IndexSet;
 use std::alloc::Global;
@@ -19,7 +18,7 @@ const MAX_VALUES: usize = 4_294_967_295;
 /// hold.
 #[derive(Drop)]
 pub struct SetColl {
-    table: IndexSet<HeldValue>,
+    table: IndexSet<Vec<u8>>,
     // The stated sizes of the values together, modulo 2^64.
     size: u64,
 }
@@ -33,11 +32,11 @@ impl Model for SetColl {
     ghost Value = { SetContents };
 
     ghost view = { λ it. record {
-      values = map (λ v. v.bytes.items) it.table.keys;
+      values = map (λ v. v.items) it.table.keys;
       spare = room_of (length it.table.keys) (spare it.table);
     } };
 
-    ghost invariant = { λ it. (length it.table.keys ≤ most_values) × (it.size ≡ values_size (map (λ v. v.bytes.items) it.table.keys) % 2 ^ 64) };
+    ghost invariant = { λ it. (length it.table.keys ≤ most_values) × (it.size ≡ values_size (map (λ v. v.items) it.table.keys) % 2 ^ 64) };
 }
 
 impl SetColl {
@@ -88,7 +87,7 @@ impl SetColl {
         ensures place { result ≡ place_of value.now self.now.values }
         ensures within { IfSome result (λ place. place < length self.now.values) }
     {
-        let place = self.table.get_index_of(Sought { bytes: value })?;
+        let place = self.table.get_index_of(value)?;
         Some(place as u32)
     }
 
@@ -100,7 +99,7 @@ impl SetColl {
         ensures spare { self.old.spare ≤ self.new.spare + 1 }
     {
         self.size = self.size.wrapping_add(value_size(&value));
-        self.table.insert(HeldValue { bytes: value }).unwrap();
+        self.table.insert(value).unwrap();
     }
 
     /// The value at a place.
@@ -108,7 +107,7 @@ impl SetColl {
         requires { place < length self.now.values }
         ensures { slice_get self.now.values place ≡ Some result.now }
     {
-        &self.table.as_slice()[place as usize].bytes
+        &self.table.as_slice()[place as usize]
     }
 
     /// Removes the value at a place. The others keep their order, which costs a move of each that is behind it. Takes no
@@ -118,7 +117,7 @@ impl SetColl {
         ensures values { self.new.values ≡ remove self.old.values place }
         ensures spare { self.old.spare ≤ self.new.spare }
     {
-        let gone = value_size(&self.table.as_slice()[place as usize].bytes);
+        let gone = value_size(&self.table.as_slice()[place as usize]);
         self.size = self.size.wrapping_sub(gone);
         self.table.shift_remove_index(place as usize);
     }
@@ -153,12 +152,12 @@ fn value_size(value: &[u8]) -> u64
 }
 
 // The stated sizes of these values together, modulo 2^64.
-fn values_size(values: &[HeldValue]) -> u64
-    ensures { result ≡ values_size (map (λ v. v.bytes.items) values.now) % 2 ^ 64 }
+fn values_size(values: &[Vec<u8>]) -> u64
+    ensures { result ≡ values_size (map (λ v. v.items) values.now) % 2 ^ 64 }
 {
     let mut size = 0u64;
     for value in values {
-        size = size.wrapping_add(value_size(&value.bytes));
+        size = size.wrapping_add(value_size(value));
     }
     size
 }

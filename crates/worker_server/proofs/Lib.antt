@@ -1,5 +1,5 @@
-mod Serving
-mod Running
-mod Meeting
-mod Apart
+pub mod Serving
+pub mod Running
+pub mod Meeting
+pub mod Apart
 pub mod Replies

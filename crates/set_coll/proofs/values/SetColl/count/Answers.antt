@@ -9,4 +9,4 @@ use Rattle.set_coll.proofs.values.SetColl.count.Goals as goal
 pub returns-clause-distinct : goal.returns-clause-distinct
 returns-clause-distinct c =
     let seen = ap (λ (s : SetContents). s.values) c.self.view_is in
-    AllPairs-from_IsDistinct bytes_eq-Decides _ (distinct_seen (λ v. v.bytes.items) _ _ seen bytes_eq c.len.ensures.unique)
+    AllPairs-from_IsDistinct bytes_eq-Decides _ (distinct_seen (λ v. v.items) _ _ seen bytes_eq c.len.ensures.unique)

@@ -11,7 +11,7 @@ invariant_of-self c =
     let n = c.min-n.result in
     let removed = c.drop-drain.ensures.kept ∙ c.drain.ensures.kept in (
       omega (arith, ap length removed, length-drop n keys, c.self.invariant.0),
-      size_dropped (λ v. v.bytes.items) keys _ _ n _ _ removed (ap (take n) c.as_slice.ensures.keys) c.self.invariant.1 c.values_size-gone.ensures,
+      size_dropped (λ v. v.items) keys _ _ n _ _ removed (ap (take n) c.as_slice.ensures.keys) c.self.invariant.1 c.values_size-gone.ensures,
     )
 
 pub returns-clause-values : goal.returns-clause-values
@@ -19,4 +19,4 @@ returns-clause-values c =
     let seen = ap (λ (s : SetContents). s.values) c.self.view_is in
     let removed = c.drop-drain.ensures.kept ∙ c.drain.ensures.kept in
     let first = first_removed c.self.inside.table.keys _ _ c.args.n _ c.len.ensures.len c.min-n.ensures removed in
-    drop_seen (λ v. v.bytes.items) _ _ seen _ c.args.n first
+    drop_seen (λ v. v.items) _ _ seen _ c.args.n first

@@ -1,1 +1,0 @@
-//! Hires a worker for each port.
