@@ -32,28 +32,33 @@ fn expect_cut(rt: &impl Abort, alloc: Global, row: Row) -> Result<(), Fail> {
 
 const SEVENS: [usize; 60] = [7; 60];
 
-// Pieces of 7 bytes, where one pull or push is to be made again, or one push takes one byte.
-fn expect_made_again(rt: &impl Abort, alloc: Global, row: Row) -> Result<(), Fail> {
-    let pieces = Manner {
+// Pieces of 7 bytes, where these pulls and pushes are to be made again, and these pushes take one byte.
+fn expect_with<'a>(
+    rt: &impl Abort,
+    alloc: Global,
+    row: Row,
+    again_pulls: &'a [u64],
+    again_pushes: &'a [u64],
+    partial_pushes: &'a [u64],
+) -> Result<(), Fail> {
+    let manner = Manner {
         lengths: &SEVENS,
+        again_pulls,
+        again_pushes,
+        partial_pushes,
         ..STEADY
     };
+    expect_turns(rt, alloc, manner, row)?;
+    Ok(())
+}
+
+// Each of the first 60 pulls, and each of the pushes, does so in turn.
+fn expect_made_again(rt: &impl Abort, alloc: Global, row: Row) -> Result<(), Fail> {
     for call in 0..60 {
-        let pull = Manner {
-            again_pulls: &[call],
-            ..pieces
-        };
-        let push = Manner {
-            again_pushes: &[call],
-            ..pieces
-        };
-        let part = Manner {
-            partial_pushes: &[call],
-            ..pieces
-        };
-        for manner in [pull, push, part] {
-            expect_turns(rt, alloc, manner, row)?;
-        }
+        let this = [call];
+        expect_with(rt, alloc, row, &this, &[], &[])?;
+        expect_with(rt, alloc, row, &[], &this, &[])?;
+        expect_with(rt, alloc, row, &[], &[], &this)?;
     }
     Ok(())
 }
