@@ -98,6 +98,7 @@ still_in number other (first ∷ numbers) apart is =
     here : first ≡ number → (first ≡ other) ⊎ Contains numbers other → Contains numbers other
     here same (inl is') = absurd (apart (sym is' ∙ same))
     here same (inr rest) = rest
+
     there : (Contains numbers other → Contains (without number numbers) other) → (first ≡ other) ⊎ Contains numbers other → Contains (first ∷ without number numbers) other
     there more (inl is') = subst (λ n. Contains (n ∷ without number numbers) other) (sym is') (head_in other (without number numbers))
     there more (inr rest) = Contains-cons first other (without number numbers) (more rest)
@@ -122,7 +123,7 @@ served_is limit (turns_away number link ∷ moves) from to (middle, step, is) =
     let rest = served_is limit moves middle to is in let a = ap (λ s. s.taken_on) step.2 in let b = ap (λ s. length s.present) step.2 in omega arith
 
 pub few_of : (size length most : ℕ) → size ≡ length → size ≢ most → length ≤ most → length < most
-few_of size length most same differs few = elim (cases_eq size most) [ | inl is ↦ absurd (differs is) | inr apart ↦ grind (arith, same, few, apart) ]
+few_of size length most same differs few = elim (cases_eq size most) [ inl is ↦ absurd (differs is) | inr apart ↦ grind (arith, same, few, apart) ]
 
 pub nil_of : {X : Type 0} (xs : List X) → length xs ≡ 0 → xs ≡ []
 nil_of [] is = refl
