@@ -26,7 +26,8 @@ sessions_line total = codes "sessions=" ++ (decimal total ++ 10 ∷ [])
 abbrev pub EndedWell : {P : Type 0} → Member P → Type 0
 EndedWell member = (member.end ≡ worker_end.Closed) ⊎ (member.end ≡ worker_end.Limit)
 
-module _ {L P C : Type 0} (look : L → Linked) (tell : P → PortState L) (coming : C → Option (List ℕ)) where
+-- What follows reads a port by what it tells.
+module _ {L P : Type 0} (tell : P → PortState L) where
   -- these ports were handed out, one after another
   abbrev pub HandsThrough : PortsState P → List P → PortsState P → Type 0
   HandsThrough before [] after = after ≡ before
@@ -37,21 +38,22 @@ module _ {L P C : Type 0} (look : L → Linked) (tell : P → PortState L) (comi
   TakesThrough before [] after = after ≡ before
   TakesThrough before (port ∷ ports) after = (middle : PortsState P) × TakesPort before port (tell port) middle × TakesThrough middle ports after
 
-  -- it serves so many sessions at most, by a clock that goes on with these seconds
-  pub record IsHiredFor (seconds : Option (List ℕ)) (sessions : ℕ) (worker : Hired P C) : Type 0 where
-    pub clock : coming worker.clock ≡ seconds
-    pub limit : worker.sessions ≡ sessions
+-- it serves so many sessions at most, by a clock that goes on with these seconds
+pub record IsHiredFor {P C : Type 0} (coming : C → Option (List ℕ)) (seconds : Option (List ℕ)) (sessions : ℕ) (worker : Hired P C) : Type 0 where
+  pub clock : coming worker.clock ≡ seconds
+  pub limit : worker.sessions ≡ sessions
 
+module _ {L P C : Type 0} (look : L → Linked) (tell : P → PortState L) (coming : C → Option (List ℕ)) where
   -- ALL WORKERS HAVE RUN, each with a port of its own, over one cache: there is one history. Each port was taken back.
   pub record HaveAllServed (opening : CacheState) (workers sessions : ℕ) (seconds : Option (List ℕ)) (before after : PortsState P) (members : List (Member P)) : Type 0 where
     pub team : List (Hired P C)
     pub count : length team ≡ workers
-    pub alike : AllByRecursion (IsHiredFor seconds sessions) team
+    pub alike : AllByRecursion (IsHiredFor coming seconds sessions) team
     pub handed_out : PortsState P
-    pub handed : HandsThrough before (map (λ w. w.port) team) handed_out
+    pub handed : HandsThrough tell before (map (λ w. w.port) team) handed_out
     pub closing : CacheState
     pub run : TeamHasWorked look tell coming opening team closing members
-    pub back : TakesThrough handed_out (map (λ m. m.port) members) after
+    pub back : TakesThrough tell handed_out (map (λ m. m.port) members) after
 
   -- why no worker ran
   abbrev pub Refuses : ServeEnd → PortsState P → PortsState P → Type 0
@@ -64,10 +66,10 @@ module _ {L P C : Type 0} (look : L → Linked) (tell : P → PortState L) (comi
   pub record NoneHasServed (ended : ServeEnd) (before after : PortsState P) : Type 0 where
     pub ports : List P
     pub handed_out : PortsState P
-    pub handed : HandsThrough before ports handed_out
+    pub handed : HandsThrough tell before ports handed_out
     pub refused_at : PortsState P
     pub refused : Refuses ended handed_out refused_at
-    pub back : TakesThrough refused_at ports after
+    pub back : TakesThrough tell refused_at ports after
 
   -- All workers ended well, and the number of sessions was written.
   pub record EndsDone (opening : CacheState) (workers sessions : ℕ) (seconds : Option (List ℕ)) (before after : PortsState P) (out out' : Outgoing) : Type 0 where
@@ -98,7 +100,7 @@ module _ {L P C : Type 0} (look : L → Linked) (tell : P → PortState L) (comi
     pub same_write_faults : out'.faults ≡ out.faults
     pub cause : (NoneHasServed serve_end.NoMemory before after × (out' ≡ out))
         ⊎ ((members : List (Member P)) × HaveAllServed opening workers sessions seconds before after members
-            × ((out' ≡ out) ⊎ (AllByRecursion EndedWell members × Rose out.refusals out'.refusals × IsSentInPart out.sent out'.sent (sessions_line (total_served members)))))
+        × ((out' ≡ out) ⊎ (AllByRecursion EndedWell members × Rose out.refusals out'.refusals × IsSentInPart out.sent out'.sent (sessions_line (total_served members)))))
 
   -- THE SERVER. How it ends, and why.
   abbrev pub Serves : ServeEnd → (opening : CacheState) (workers sessions : ℕ) (seconds : Option (List ℕ)) (before after : PortsState P) (out out' : Outgoing) → Type 0

@@ -7,4 +7,4 @@ mod hiring;
 mod serve;
 mod verdict;
 
-pub use serve::{ServeEnd, Serving, serve_ports};
+pub use serve::{ServeEnd, Serving};
