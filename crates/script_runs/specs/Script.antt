@@ -108,6 +108,10 @@ abbrev pub offset_in : List ℕ → Read (List Session) → Result (List Session
 offset_in text (Ok all) = Ok all
 offset_in text (Err rest) = Err (length text - length rest)
 
+-- a script has at most so many sessions
+unfoldable pub most_sessions : ℕ
+most_sessions = 1000
+
 -- THE SCRIPT. The sessions of a text, of which there are at most 1,000; or the offset of its first bad part.
 abbrev pub script_of : List ℕ → Result (List Session) ℕ
-script_of text = offset_in text (sessions 1000 text)
+script_of text = offset_in text (sessions most_sessions text)
