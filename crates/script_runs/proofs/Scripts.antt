@@ -1,5 +1,5 @@
 -- Scripts that are read part by part.
-use Rattle.std.proofs.Common.{◌≡◌, ◌∙◌, ℕ, zero, suc, ◌+◌, ◌-◌, ◌<◌, ◌≤◌, Bool, true, false, cond, List, [], ◌∷◌, ◌++◌, length, drop, Option, Some, None, Result, Ok, Err, is_ok, is_err, ◌==◌, refl, sym, ap, subst, arith}
+use Rattle.std.proofs.Common.{◌≡◌, ◌∙◌, ℕ, zero, suc, ◌+◌, ◌-◌, ◌<◌, ◌≤◌, Bool, true, false, cond, List, [], ◌∷◌, ◌++◌, length, drop, Option, Some, None, Result, Ok, Err, is_ok, is_err, ◌==◌, ne_eqb, refl, sym, ap, subst, arith}
 use Rattle.std.specs.Option.{option_map}
 use Rattle.std.proofs.lemmas.List.{append-nil, append_assoc}
 use Rattle.arc_core.specs.Outside.{Linked, linked}
@@ -135,10 +135,14 @@ module _ {L : Type 0} (look : L → Linked) where
 pub one_longer : {A E : Type 0} (r : Result A E) (new old : ℕ) → is_err r ≡ false → new ≡ cond (is_ok r) (old + 1) old → new ≡ old + 1
 one_longer r new old good is = is ∙ ap (λ b. cond b (old + 1) old) (is_good r good)
 
+apart : {P : Type 0} → true ≡ false → P
+apart e = absurd (subst (λ b. cond b (Unit {0}) ⊥) e tt)
+
 pub none_behind : (behind rest : List ℕ) → behind ≡ rest → true ≡ (length behind == 0) → rest ≡ []
 none_behind [] rest is none = sym is
-none_behind (byte ∷ more) rest is none = absurd (cc)
+none_behind (byte ∷ more) rest is none =
+    let other : true ≡ false = none ∙ ne_eqb (length (byte ∷ more)) 0 (λ same. absurd (omega (arith, same))) in apart other
 
 pub some_behind : (behind rest : List ℕ) → behind ≡ rest → false ≡ (length behind == 0) → 0 < length rest
-some_behind [] rest is some = absurd (cc)
+some_behind [] rest is some = apart (sym some)
 some_behind (byte ∷ more) rest is some = omega (arith, ap length is)

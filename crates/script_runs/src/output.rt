@@ -1,5 +1,5 @@
 //! Writes what came of sessions.
-ghost use Rattle.std.specs.Prelude.{◌≡◌, ◌++◌, ◌∷◌, [], ℕ, List, IfOk, string_bytes};
+ghost use Rattle.std.specs.Prelude.{◌≡◌, ◌≤◌, length, drop, IfOk, string_bytes};
 ghost use Rattle.arc_core.specs.Outside.{outgoing};
 ghost use Rattle.script_runs.specs.Output.{HasWord, word_of, header, outcome_record};
 ghost use Rattle.script_runs.specs.Writing.{Writes, outcome};
@@ -41,6 +41,14 @@ fn header(alloc: Global, number: usize, end: End, sent: &[u8]) -> Result<String,
     format!(in alloc; "session {number} {word} {count}\n")
 }
 
+// What stands behind the first so many bytes.
+fn behind(piece: &[u8], count: usize) -> &[u8]
+    requires { count ≤ length piece.now }
+    ensures { result.now ≡ drop count piece.now }
+{
+    &piece[count..]
+}
+
 // Writes all bytes of a piece.
 fn write_piece<K: Sink>(piece: &[u8], sink: &mut K) -> Result<(), Unwritten>
     ensures { Writes (outgoing (K.sent sink.old) (K.write_faults sink.old) (K.refusals sink.old)) piece.now
@@ -49,7 +57,7 @@ fn write_piece<K: Sink>(piece: &[u8], sink: &mut K) -> Result<(), Unwritten>
     let mut left = piece;
     while !left.is_empty() {
         match sink.push(left) {
-            Push::Took(count) => left = &left[count..],
+            Push::Took(count) => left = behind(left, count),
             Push::Failed => return Err(Unwritten::Failed),
             Push::NoMemory => return Err(Unwritten::NoMemory),
             // A sink never has to be asked again.
@@ -74,8 +82,11 @@ pub(crate) fn write_outcome<K: Sink>(
     let Ok(line) = header(alloc, number, end, sent) else {
         return Err(Unwritten::NoMemory);
     };
-    for piece in [line.as_bytes(), sent, b"\n".as_slice()] {
-        write_piece(piece, sink)?;
+    if let Err(fault) = write_piece(line.as_bytes(), sink) {
+        return Err(fault);
     }
-    Ok(())
+    if let Err(fault) = write_piece(sent, sink) {
+        return Err(fault);
+    }
+    write_piece(b"\n".as_slice(), sink)
 }
