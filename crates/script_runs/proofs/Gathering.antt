@@ -1,7 +1,7 @@
 -- Bytes of a source that were gathered.
-use Rattle.std.proofs.Common.{◌≡◌, ◌∙◌, ℕ, ◌+◌, ◌^◌, ◌<◌, ◌≤◌, List, [], ◌∷◌, ◌++◌, length, take, Option, Some, None, refl, sym, ap, arith}
+use Rattle.std.proofs.Common.{◌≡◌, ◌∙◌, ℕ, List, [], ◌++◌, Option, Some, None, refl, sym, ap}
 use Rattle.std.proofs.lemmas.List.{append_assoc}
-use Rattle.arc_core.specs.Outside.{Incoming, first_then}
+use Rattle.arc_core.specs.Outside.{first_then}
 
 pub nothing_taken : (left : Option (List ℕ)) → left ≡ first_then [] left
 nothing_taken None = refl

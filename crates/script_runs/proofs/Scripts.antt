@@ -1,6 +1,5 @@
 -- Scripts that are read part by part.
-use Rattle.std.proofs.Common.{◌≡◌, ◌∙◌, ℕ, zero, suc, ◌+◌, ◌-◌, ◌<◌, ◌≤◌, Bool, true, false, cond, List, [], ◌∷◌, ◌++◌, length, drop, Option, Some, None, Result, Ok, Err, is_ok, is_err, ◌==◌, ne_eqb, refl, sym, ap, subst, arith}
-use Rattle.std.specs.Option.{option_map}
+use Rattle.std.proofs.Common.{◌≡◌, ◌∙◌, ℕ, zero, suc, ◌+◌, ◌-◌, ◌<◌, true, false, cond, List, [], ◌∷◌, ◌++◌, length, drop, Option, Some, None, Result, Ok, Err, is_ok, is_err, ◌==◌, ne_eqb, refl, sym, ap, subst, arith}
 use Rattle.std.proofs.lemmas.List.{append-nil, append_assoc}
 use Rattle.arc_core.specs.Outside.{Linked, linked}
 use Rattle.script_runs.specs.Script.{Session, bytes_of, Read, with_piece, then_pieces, pieces, piece_record, session_record, then_read, then_sessions, behind_end, is_at_end, most_sessions, sessions}

@@ -1,11 +1,11 @@
 -- Texts that are written piece by piece.
-use Rattle.std.proofs.Common.{◌≡◌, ◌∙◌, ℕ, take, drop, List, [], ◌∷◌, ◌++◌, Option, Some, None, Result, Ok, Err, refl, sym, ap, subst}
+use Rattle.std.proofs.Common.{◌≡◌, ◌∙◌, ℕ, take, drop, List, [], ◌++◌, Option, Some, None, Result, Ok, Err, refl, sym, ap, subst}
 use Rattle.std.proofs.lemmas.List.{append-nil, append_assoc, take-append-drop}
 use Rattle.arc_core.specs.Outside.{Outgoing, outgoing, WasTaken, Rose, then_sent, sent_more}
 use Rattle.pipe_session.specs.Ends.{IsSentInPart}
 use Rattle.script_runs.specs.declared.output.Unwritten.{Unwritten}
 use Rattle.script_runs.specs.declared.output.Unwritten.TheVariants as unwritten
-use Rattle.script_runs.specs.Writing.{Writes, FailedIn, RefusedIn}
+use Rattle.script_runs.specs.Writing.{Writes, RefusedIn}
 
 sent_both : (sent : Option (List ℕ)) (front more : List ℕ) → then_sent (then_sent sent front) more ≡ then_sent sent (front ++ more)
 sent_both None front more = refl

@@ -1,5 +1,5 @@
 -- What the functions within read: all bytes of a source, and the sessions of a text, each as a link.
-use Rattle.std.specs.Prelude.{◌≡◌, ℕ, ◌+◌, ◌-◌, ◌^◌, ◌<◌, ◌≤◌, List, [], ◌∷◌, ◌++◌, length, Option, Some, None, IfSome, Result, Ok, Err}
+use Rattle.std.specs.Prelude.{◌≡◌, ℕ, ◌^◌, ◌<◌, ◌≤◌, List, [], ◌∷◌, length, Some, IfSome, Result, Ok, Err}
 use Rattle.arc_core.specs.Outside.{Incoming, Linked, linked, Rose, first_then}
 use Rattle.script_runs.specs.declared.input.Input.{Input}
 use Rattle.script_runs.specs.declared.input.Input.TheVariants as input

@@ -1,8 +1,7 @@
 -- THE HEADLINE. What a run of a script is: its sessions are served by several workers over one cache, and there is one
 -- history, in which each session's output is its replies.
-use Rattle.std.specs.Prelude.{◌≡◌, ◌⊎◌, ℕ, ◌+◌, ◌*◌, ◌/◌, ◌%◌, ◌^◌, ◌<◌, ◌≤◌, ◌==◌, List, [], ◌∷◌, ◌++◌, length, filter, map, slice_get, Option, Some, None, IfSome, Ok, Err}
+use Rattle.std.specs.Prelude.{◌≡◌, ◌⊎◌, ℕ, ◌+◌, ◌/◌, ◌%◌, ◌^◌, ◌<◌, ◌≤◌, List, [], ◌∷◌, ◌++◌, length, Option, Some, IfSome, Ok, Err}
 use Rattle.std.specs.List.{AllByRecursion}
-use Rattle.arc_core.specs.declared.ends.End.{End}
 use Rattle.arc_core.specs.CacheState.{CacheState}
 use Rattle.arc_core.specs.CollectionLines.{coll_line_needs}
 use Rattle.arc_core.specs.Framing.{Whole, BeginsWith}

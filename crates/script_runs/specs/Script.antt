@@ -3,7 +3,7 @@
 -- A script is session records, and then the line `end`. A session record is a line `session <pieces>`, and then so many
 -- piece records. A piece record is a line `piece <bytes>`, so many bytes, and a line feed. Each line ends with a line feed.
 -- Numbers are decimal digits without a leading zero. (This server's own format.)
-use Rattle.std.specs.Prelude.{◌==◌, ◌&&◌, ℕ, ◌+◌, ◌-◌, nat_lt, if◌then◌else◌, zero, suc, List, [], ◌∷◌, ◌++◌, length, take, drop, map, position, slice_index, bytes_eq, codes, Bool, Option, Some, None, Result, Ok, Err}
+use Rattle.std.specs.Prelude.{◌==◌, ◌&&◌, ℕ, ◌+◌, ◌-◌, nat_lt, if◌then◌else◌, zero, suc, List, [], ◌∷◌, ◌++◌, length, take, drop, position, slice_index, bytes_eq, codes, Bool, Option, Some, None, Result, Ok, Err}
 use Rattle.std.specs.Option.{option_map, option_and_then}
 use Rattle.arc_core.specs.Words.{number_below}
 

@@ -1,4 +1,4 @@
-use Rattle.std.proofs.Common.{◌++◌, ◌∙◌, length, take, arith}
+use Rattle.std.proofs.Common.{◌++◌, ◌∙◌, take, arith}
 use Rattle.std.proofs.Math.ListN.{length-append, length-take}
 use Rattle.script_runs.proofs.Gathering.{took_more}
 use Rattle.script_runs.proofs.input.gather.Goals as goal

@@ -1,4 +1,4 @@
-use Rattle.std.proofs.Common.{◌≡◌, ◌-◌, ◌^◌, ◌≤◌, length, vec_len}
+use Rattle.std.proofs.Common.{◌≡◌, ◌-◌, ◌^◌, ◌≤◌, vec_len}
 use Rattle.arc_core.specs.Outside.{first_then}
 use Rattle.script_runs.proofs.input.gather.Given as goal
 

@@ -1,4 +1,4 @@
-use Rattle.std.proofs.Common.{◌≡◌, ◌∙◌, ◌-◌, ◌++◌, ◌∷◌, [], ℕ, length, drop, ap, refl, sym, subst, arith}
+use Rattle.std.proofs.Common.{◌≡◌, ◌∙◌, ◌-◌, ◌++◌, ◌∷◌, [], length, drop, ap, refl, sym, subst, arith}
 use Rattle.arc_core.specs.Outside.{Linked, linked}
 use Rattle.arc_core.specs.contracts.links.SteadyLinkLink.TheImpl.{ghosts}
 use Rattle.arc_core.specs.declared.links.SteadyLink.{SteadyLink}
