@@ -1,0 +1,5 @@
+pub mod Script
+pub mod Output
+pub mod Runs
+pub mod Reading
+pub mod Writing
