@@ -2,4 +2,3 @@ pub mod Script
 pub mod Output
 pub mod Runs
 pub mod Reading
-pub mod Writing

@@ -8,6 +8,9 @@ pub record Outcome : Type 0 where
   pub ended : End
   pub sent : List ℕ
 
+abbrev pub outcome : End → List ℕ → Outcome
+outcome ended sent = record { ended = ended; sent = sent }
+
 -- the word of an end
 abbrev pub word_of : End → List ℕ
 word_of end.Ended = codes "ended"

@@ -1,20 +1,12 @@
 //! Writes what came of sessions.
-ghost use Rattle.std.specs.Prelude.{◌≡◌, ◌≤◌, length, drop, IfOk, string_bytes};
+ghost use Rattle.std.specs.Prelude.{◌≡◌, IfOk, string_bytes};
 ghost use Rattle.arc_core.specs.Outside.{outgoing};
-ghost use Rattle.script_runs.specs.Output.{HasWord, word_of, header, outcome_record};
-ghost use Rattle.script_runs.specs.Writing.{Writes, outcome};
+ghost use Rattle.script_runs.specs.Output.{HasWord, word_of, header, outcome_record, outcome};
+ghost use Rattle.sink_writes.specs.Writing.{Writes};
 
-use arc_core::{End, Push, Sink};
+use arc_core::{End, Sink};
+use sink_writes::{Unwritten, write_all};
 use std::alloc::{AllocError, Global};
-
-/// Why a text was not written whole.
-#[derive(Clone, Copy, Debug, PartialEq, Eq)]
-pub(crate) enum Unwritten {
-    /// The sink failed, and counted it.
-    Failed,
-    /// Memory was refused.
-    NoMemory,
-}
 
 // The word of an end that a session of a script may have.
 fn word_of(end: End) -> &'static str
@@ -41,34 +33,8 @@ fn header(alloc: Global, number: usize, end: End, sent: &[u8]) -> Result<String,
     format!(in alloc; "session {number} {word} {count}\n")
 }
 
-// What stands behind the first so many bytes.
-fn behind(piece: &[u8], count: usize) -> &[u8]
-    requires { count ≤ length piece.now }
-    ensures { result.now ≡ drop count piece.now }
-{
-    &piece[count..]
-}
-
-// Writes all bytes of a piece.
-fn write_piece<K: Sink>(piece: &[u8], sink: &mut K) -> Result<(), Unwritten>
-    ensures { Writes (outgoing (K.sent sink.old) (K.write_faults sink.old) (K.refusals sink.old)) piece.now
-        (outgoing (K.sent sink.new) (K.write_faults sink.new) (K.refusals sink.new)) result }
-{
-    let mut left = piece;
-    while !left.is_empty() {
-        match sink.push(left) {
-            Push::Took(count) => left = behind(left, count),
-            Push::Failed => return Err(Unwritten::Failed),
-            Push::NoMemory => return Err(Unwritten::NoMemory),
-            // A sink never has to be asked again.
-            Push::Again => unreachable!(),
-        }
-    }
-    Ok(())
-}
-
 /// Writes the record of a session with this number: how it ended, and what was sent to it.
-pub(crate) fn write_outcome<K: Sink>(
+pub fn write_outcome<K: Sink>(
     alloc: Global,
     number: usize,
     end: End,
@@ -82,11 +48,11 @@ pub(crate) fn write_outcome<K: Sink>(
     let Ok(line) = header(alloc, number, end, sent) else {
         return Err(Unwritten::NoMemory);
     };
-    if let Err(fault) = write_piece(line.as_bytes(), sink) {
+    if let Err(fault) = write_all(line.as_bytes(), sink) {
         return Err(fault);
     }
-    if let Err(fault) = write_piece(sent, sink) {
+    if let Err(fault) = write_all(sent, sink) {
         return Err(fault);
     }
-    write_piece(b"\n".as_slice(), sink)
+    write_all(b"\n".as_slice(), sink)
 }

@@ -100,7 +100,7 @@ module _ {L P C : Type 0} (look : L → Linked) (tell : P → PortState L) (comi
     pub same_write_faults : out'.faults ≡ out.faults
     pub cause : (NoneHasServed serve_end.NoMemory before after × (out' ≡ out))
         ⊎ ((members : List (Member P)) × HaveAllServed opening workers sessions seconds before after members
-        × ((out' ≡ out) ⊎ (AllByRecursion EndedWell members × Rose out.refusals out'.refusals × IsSentInPart out.sent out'.sent (sessions_line (total_served members)))))
+        × ((out' ≡ out) ⊎ (AllByRecursion EndedWell members × IsSentInPart out.sent out'.sent (sessions_line (total_served members)))))
 
   -- THE SERVER. How it ends, and why.
   abbrev pub Serves : ServeEnd → (opening : CacheState) (workers sessions : ℕ) (seconds : Option (List ℕ)) (before after : PortsState P) (out out' : Outgoing) → Type 0

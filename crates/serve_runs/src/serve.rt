@@ -113,3 +113,34 @@ where
         }
     }
 }
+
+// Runs the workers, takes their ports back, and writes how many sessions they have served.
+fn run_team<
+    R: Threads + Wait + Sync,
+    E: Executor + Drop + Send,
+    Q: Ports,
+    K: Sink,
+    C: Clock + Drop + Send,
+>(rt: &R, alloc: Global, team: Team<E, Q::Port, C>, ports: &mut Q, sink: &mut K) -> ServeEnd
+where
+    Q::Port: Send + Drop,
+    <Q::Port as Port>::Link: Send,
+    requires few { length team.workers ≤ 4096 }
+    requires out { length team.workers ≤ Q.out ports.old }
+    ensures { EndsServed
+        (λ link. linked (Q.Port.Link.left link) (Q.Port.Link.read_faults link) (Q.Port.Link.sent link) (Q.Port.Link.write_faults link) (Q.Port.Link.refusals link) (Q.Port.Link.agains link))
+        (λ port. port_state (Q.Port.links port) (Q.Port.returned port) (Q.Port.faults port) (Q.Port.refusals port))
+        C.coming team.opening team.workers
+        (ports_state (Q.waiting ports.old) (Q.taken_back ports.old) (Q.out ports.old) (Q.faults ports.old) (Q.refusals ports.old))
+        (ports_state (Q.waiting ports.new) (Q.taken_back ports.new) (Q.out ports.new) (Q.faults ports.new) (Q.refusals ports.new))
+        (outgoing (K.sent sink.old) (K.write_faults sink.old) (K.refusals sink.old)) (outgoing (K.sent sink.new) (K.write_faults sink.new) (K.refusals sink.new)) result }
+{
+    let (_executor, members) = team.serve(rt);
+    let verdict = verdict_on(&members);
+    take_back(ports, members);
+    match verdict {
+        Verdict::PortFault => ServeEnd::PortFault,
+        Verdict::NoMemory => ServeEnd::NoMemory,
+        Verdict::Well(total) => write_total(alloc, total, sink),
+    }
+}

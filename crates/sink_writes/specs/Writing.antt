@@ -1,14 +1,9 @@
--- What the functions within write.
+-- What the writing of a text to a sink leaves.
 use Rattle.std.specs.Prelude.{◌≡◌, ℕ, List, Result, Ok, Err}
-use Rattle.arc_core.specs.declared.ends.End.{End}
 use Rattle.arc_core.specs.Outside.{Outgoing, Rose, sent_more}
 use Rattle.pipe_session.specs.Ends.{IsSentInPart}
-use Rattle.script_runs.specs.declared.output.Unwritten.{Unwritten}
-use Rattle.script_runs.specs.declared.output.Unwritten.TheVariants as unwritten
-use Rattle.script_runs.specs.Output.{Outcome}
-
-abbrev pub outcome : End → List ℕ → Outcome
-outcome ended sent = record { ended = ended; sent = sent }
+use Rattle.sink_writes.specs.declared.write.Unwritten.{Unwritten}
+use Rattle.sink_writes.specs.declared.write.Unwritten.TheVariants as unwritten
 
 -- A push failed, which was counted, and a front of the text was sent.
 pub record FailedIn (before : Outgoing) (text : List ℕ) (after : Outgoing) : Type 0 where
