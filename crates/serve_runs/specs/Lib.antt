@@ -1,0 +1,4 @@
+pub mod Serving
+pub mod Verdicts
+pub mod Hiring
+pub mod Ending
