@@ -2,7 +2,7 @@
 use Rattle.std.proofs.Common.{zero, suc, get_or, set, cond, count_by, is_some, ◌≡◌, ◌≢◌, ◌⊎◌, ◌∙◌, ℕ, ◌+◌, ◌<◌, ◌≤◌, List, [], ◌∷◌, ◌++◌, length, Contains, Option, Some, None, refl, sym, ap, subst, inl, inr, arith}
 use Rattle.std.specs.List.{AllByRecursion}
 use Rattle.std.proofs.lemmas.Bool.{cases_eq}
-use Rattle.std.proofs.lemmas.List.{append-nil, append_assoc, length-append}
+use Rattle.std.proofs.lemmas.List.{append-nil, append_assoc}
 use Rattle.slab.proofs.SlabLemmas.{Contains-cons}
 use Rattle.std.proofs.lemmas.List.Sums.{sum_by-cons}
 use Rattle.std.proofs.lemmas.List.Elements.{Contains-append_left, Contains-append_right}
@@ -11,19 +11,17 @@ use Rattle.arc_core.specs.declared.ends.End.{End}
 use Rattle.arc_core.specs.declared.ends.End.TheVariants as end
 use Rattle.arc_core.specs.History.{Entry}
 use Rattle.arc_core.specs.Outside.{Linked}
-use Rattle.pipe_session.specs.Desks.{TicksThrough}
-use Rattle.pipe_session.specs.Turns.{Standing, SoFar, no_deeds}
+use Rattle.pipe_session.specs.Turns.{SoFar, no_deeds}
 use Rattle.turn_lock.specs.Seats.{SeatView}
 use Rattle.worker_server.specs.Apart.{session_calls}
-use Rattle.worker_server.specs.Ports.{PortState, links_then, then_returned}
+use Rattle.worker_server.specs.Ports.{links_then, then_returned}
 use Rattle.worker_server.specs.declared.worker.WorkerEnd.{WorkerEnd}
 use Rattle.worker_server.specs.Workers.{EndsFor}
-use Rattle.worker_server.specs.Sessions.{IsOf, HasCalled}
 use Rattle.event_port.specs.declared.guests.Guest.{Guest}
 use Rattle.event_port.specs.declared.guests.Floor.{Floor}
 use Rattle.event_port.specs.Pollers.{PollerState, GivesOut, TakesIn}
 use Rattle.event_port.specs.Moves.{HasRunEvents, AnyAnswer, Stand, Move, takes_on, hands_back, turns_away, stand, without, IsFull, MovesThrough, came_by, went_by, EventState, IsOfSeat, at_link, IsServedAmong, IsUntouched, IsAnswered}
-use Rattle.event_port.specs.Running.{MadeCalls, SameNumbers, HasPlace, IsBegun, StandsAt, StandsSomehow, IsOverWith, HasNone, IsGone, IsGuest, Runs, OnlyReturns, HandsBack}
+use Rattle.event_port.specs.Running.{MadeCalls, SameNumbers, HasPlace, IsBegun, StandsAt, StandsSomehow, IsOverWith, HasNone, IsGone, IsGuest, Runs, HandsBack}
 use Rattle.pipe_session.specs.Outside.{moment, outside}
 use Rattle.event_port.proofs.Calls.{made_none, all_append, called_none, called_on, same_number, calls_own, calls_other, of_seat, ticks_for}
 use Rattle.event_port.proofs.Clocks.{ticks_on}
@@ -67,6 +65,7 @@ module _ {L : Type 0} (look : L → Linked) where
     where
       here : session_calls number calls' ≡ session_calls number calls
       here = same number gone.0.1
+
       either : IsServedAmong look number calls is.0.0 link ended ⊎ IsUntouched look number calls is.0.0 link ended → IsServedAmong look number calls' is.0.0 link ended ⊎ IsUntouched look number calls' is.0.0 link ended
       either (inl served) = inl (record { over = served.over; entries = served.entries ∙ sym here })
       either (inr untouched) = inr (record { same = untouched.same; no_memory = untouched.no_memory; none = here ∙ untouched.none })
@@ -132,29 +131,33 @@ module _ {L : Type 0} (look : L → Linked) where
     where
       is : IsGuest look runs.moves runs.calls floor.came runs.present guest
       is = runs.guests key guest at
+
       others : (number : ℕ) → HasNone floor.guests number → session_calls number (runs.calls ++ more) ≡ session_calls number runs.calls
       others number none = calls_other now.seat.number guest.number number runs.calls more (none key guest at) made.own
+
       legal' : MovesThrough floor'.limit (stand 0 0 []) runs.moves (stand floor'.came floor'.taken_on runs.present)
       legal' = subst (λ c. MovesThrough floor'.limit (stand 0 0 []) runs.moves (stand c floor'.taken_on runs.present)) (sym numbers.came)
           (subst (λ t. MovesThrough floor'.limit (stand 0 0 []) runs.moves (stand floor.came t runs.present)) (sym numbers.taken_on)
           (subst (λ l. MovesThrough l (stand 0 0 []) runs.moves (stand floor.came floor.taken_on runs.present)) (sym numbers.limit) runs.legal))
+
       from : NumbersFrom floor.guests floor'.guests
       from k g at' =
           elim (cases_eq k key) [
             | inl here ↦ (guest, ap (get floor.guests) here ∙ at, ap (λ x. x.number) (some_inj g guest' (sym at' ∙ (ap (get floor'.guests) here ∙ updates.changed))) ∙ same)
             | inr there ↦ (g, sym (updates.others k there) ∙ at', refl)
           ]
+
       guests' : (k : ℕ) (g : Guest L) → get floor'.guests k ≡ Some g → IsGuest look (runs.moves ++ []) (runs.calls ++ more) floor'.came runs.present g
       guests' k g at' =
           elim (cases_eq k key) [
             | inl here ↦ subst (IsGuest look (runs.moves ++ []) (runs.calls ++ more) floor'.came runs.present) (some_inj guest' g (sym (ap (get floor'.guests) here ∙ updates.changed) ∙ at'))
-            (subst (λ c. IsGuest look (runs.moves ++ []) (runs.calls ++ more) c runs.present guest') (sym numbers.came)
-            (turned_guest runs.moves runs.calls (runs.calls ++ more) floor.came runs.present guest guest' more same is stands (calls_own now.seat.number guest.number runs.calls more made.own)))
+                (subst (λ c. IsGuest look (runs.moves ++ []) (runs.calls ++ more) c runs.present guest') (sym numbers.came)
+                (turned_guest runs.moves runs.calls (runs.calls ++ more) floor.came runs.present guest guest' more same is stands (calls_own now.seat.number guest.number runs.calls more made.own)))
             | inr there ↦
-            let at'' : get floor.guests k ≡ Some g = sym (updates.others k there) ∙ at' in
-            still_guest runs.moves [] runs.calls (runs.calls ++ more) floor.came floor'.came runs.present runs.present g
-            (calls_other now.seat.number guest.number g.number runs.calls more (λ e. there (runs.apart k key g guest at'' at (sym e))) made.own)
-            (let came = numbers.came in omega arith) (λ p. p) (runs.guests k g at'')
+                let at'' : get floor.guests k ≡ Some g = sym (updates.others k there) ∙ at' in
+                still_guest runs.moves [] runs.calls (runs.calls ++ more) floor.came floor'.came runs.present runs.present g
+                (calls_other now.seat.number guest.number g.number runs.calls more (λ e. there (runs.apart k key g guest at'' at (sym e))) made.own)
+                (let came = numbers.came in omega arith) (λ p. p) (runs.guests k g at'')
           ]
 
   -- A guest took turns, and its session is over: its link went back with that end.
@@ -194,38 +197,52 @@ module _ {L : Type 0} (look : L → Linked) where
     where
       last : List (Move L)
       last = hands_back guest.number guest'.link ending ∷ []
+
       is : IsGuest look runs.moves runs.calls floor.came runs.present guest
       is = runs.guests key guest at
+
       came' : floor'.came ≡ floor.came
       came' = back.numbers.came ∙ numbers.came
+
       was : back.guest ≡ guest'
       was = some_inj back.guest guest' (sym back.was ∙ written.changed)
+
       taken : TakesIn now.poller guest'.link ending poller
       taken = subst (λ x. TakesIn now.poller x.link ending poller) was back.taken
+
       below' : guest.number < floor'.came
       below' = let below = is.below in let came = came' in omega arith
+
       others : (number : ℕ) → HasNone floor.guests number → session_calls number (runs.calls ++ more) ≡ session_calls number runs.calls
       others number none = calls_other now.seat.number guest.number number runs.calls more (none key guest at) made.own
+
       legal' : MovesThrough floor'.limit (stand 0 0 []) runs.moves (stand floor'.came floor'.taken_on runs.present)
       legal' = subst (λ c. MovesThrough floor'.limit (stand 0 0 []) runs.moves (stand c floor'.taken_on runs.present)) (sym came')
           (subst (λ t. MovesThrough floor'.limit (stand 0 0 []) runs.moves (stand floor.came t runs.present)) (sym (back.numbers.taken_on ∙ numbers.taken_on))
           (subst (λ l. MovesThrough l (stand 0 0 []) runs.moves (stand floor.came floor.taken_on runs.present)) (sym (back.numbers.limit ∙ numbers.limit)) runs.legal))
+
       elsewhere : (k : ℕ) (g : Guest L) → get floor'.guests k ≡ Some g → k ≡ key → ⊥
       elsewhere k g at' here = none_is_not_some g (sym back.updates.changed ∙ (ap (get floor'.guests) (sym here) ∙ at'))
+
       there : (k : ℕ) (g : Guest L) → get floor'.guests k ≡ Some g → get floor.guests k ≡ Some g
       there k g at' = sym (written.others k (elsewhere k g at')) ∙ (sym (back.updates.others k (elsewhere k g at')) ∙ at')
+
       from : NumbersFrom floor.guests floor'.guests
       from k g at' = (g, there k g at', refl)
+
       differs : (k : ℕ) (g : Guest L) → get floor'.guests k ≡ Some g → g.number ≢ guest.number
       differs k g at' e = elsewhere k g at' (runs.apart k key g guest (there k g at') at e)
+
       none' : HasNone floor'.guests guest.number
       none' k g at' = differs k g at'
+
       answered' : IsAnswered look (runs.moves ++ last) (runs.calls ++ more) (hands_back guest.number guest'.link ending)
       answered' = (
         is.came,
         Contains-append_left runs.moves last (takes_on guest.number is.came) is.taken_on,
         inl (record { over = over.0; entries = over.1 ∙ sym (calls_own now.seat.number guest.number runs.calls more made.own) }),
       )
+
       guests' : (k : ℕ) (g : Guest L) → get floor'.guests k ≡ Some g → IsGuest look (runs.moves ++ last) (runs.calls ++ more) floor'.came (without guest.number runs.present) g
       guests' k g at' =
           still_guest runs.moves last runs.calls (runs.calls ++ more) floor.came floor'.came runs.present (without guest.number runs.present) g
@@ -316,10 +333,13 @@ module _ {L : Type 0} (look : L → Linked) where
     where
       last : List (Move L)
       last = turns_away floor.came link ∷ []
+
       same : (key : ℕ) → get floor'.guests key ≡ get floor.guests key
       same key = ap (λ s. get s key) guests
+
       from : NumbersFrom floor.guests floor'.guests
       from key guest at = (guest, sym (same key) ∙ at, refl)
+
       either : (slab_len floor.guests ≡ 1024) ⊎ (floor.taken_on ≡ floor.limit) → IsFull floor'.limit (stand floor.came floor.taken_on runs.present)
       either (inl is) = inl (sym runs.size ∙ is)
       either (inr is) = inr (is ∙ sym counts.limit)
@@ -336,16 +356,25 @@ module _ {L : Type 0} (look : L → Linked) where
         (moves_on floor'.limit (runs.moves ++ takes_on floor.came link ∷ []) (hands_back floor.came link end.NoMemory) (stand 0 0 []) between (stand floor'.came floor'.taken_on runs.present)
         (moves_on floor'.limit runs.moves (takes_on floor.came link) (stand 0 0 []) (stand floor.came floor.taken_on runs.present) between
         (subst (λ l. MovesThrough l (stand 0 0 []) runs.moves (stand floor.came floor.taken_on runs.present)) (sym counts.limit) runs.legal)
-        (refl, few', below', refl))
-        (head_in floor.came runs.present,
-          (ap (λ c. stand c floor'.taken_on runs.present) counts.came ∙ (ap (λ t. stand (floor.came + 1) t runs.present) counts.taken_on ∙ ap (stand (floor.came + 1) (floor.taken_on + 1)) (sym (without_same floor.came runs.present))))));
+        (refl, few', below', refl)) (
+          head_in floor.came runs.present,
+          (ap (λ c. stand c floor'.taken_on runs.present) counts.came ∙ (ap (λ t. stand (floor.came + 1) t runs.present) counts.taken_on ∙ ap (stand (floor.came + 1) (floor.taken_on + 1)) (sym (without_same floor.came runs.present)))),
+        ));
     links = links_behind before.poller now.poller given after runs.moves last link runs.links gives (ap (λ p. p.links) takes.port) refl;
     returned = returned_behind before.poller now.poller given after runs.moves last ((link, end.NoMemory) ∷ []) runs.returned (sym (ap (λ p. p.returned) gives.port)) (ap (λ p. p.returned) takes.port) refl;
     held = (let a = takes.held in let b = gives.held in let d = runs.held in omega arith);
     answered = all_append (IsAnswered look (runs.moves ++ last) runs.calls) runs.moves last
-        (still_answered runs.moves runs.moves last runs.calls runs.calls floor.guests floor.came (λ number none. refl) runs.gone runs.answered)
-        (tt, ((link, Contains-append_right runs.moves last (takes_on floor.came link) (first_in (takes_on floor.came link) (hands_back floor.came link end.NoMemory ∷ [])),
-          inr (record { same = refl; no_memory = refl; none = runs.no_others floor.came (omega arith) })), tt));
+        (still_answered runs.moves runs.moves last runs.calls runs.calls floor.guests floor.came (λ number none. refl) runs.gone runs.answered) (
+          tt,
+          (
+            (
+              link,
+              Contains-append_right runs.moves last (takes_on floor.came link) (first_in (takes_on floor.came link) (hands_back floor.came link end.NoMemory ∷ [])),
+              inr (record { same = refl; no_memory = refl; none = runs.no_others floor.came (omega arith) }),
+            ),
+            tt,
+          ),
+        );
     no_others = λ session above. let a = counts.came in runs.no_others session (omega arith);
     called = runs.called;
     own = runs.own;
@@ -361,12 +390,16 @@ module _ {L : Type 0} (look : L → Linked) where
     where
       last : List (Move L)
       last = takes_on floor.came link ∷ hands_back floor.came link end.NoMemory ∷ []
+
       between : Stand
       between = stand (floor.came + 1) (floor.taken_on + 1) (floor.came ∷ runs.present)
+
       few' : length runs.present < 1024
       few' = few_of (slab_len floor.guests) (length runs.present) 1024 runs.size room.few runs.few
+
       below' : floor.taken_on < floor'.limit
       below' = let a = room.below in let b = counts.limit in omega arith
+
       from : NumbersFrom floor.guests floor'.guests
       from key guest at = (guest, sym (same key) ∙ at, refl)
 
@@ -401,20 +434,26 @@ module _ {L : Type 0} (look : L → Linked) where
     where
       last : List (Move L)
       last = takes_on floor.came link ∷ []
+
       present' : List ℕ
       present' = floor.came ∷ runs.present
+
       few' : length runs.present < 1024
       few' = few_of (slab_len floor.guests) (length runs.present) 1024 runs.size room.few runs.few
+
       below' : floor.taken_on < floor'.limit
       below' = let a = room.below in let b = counts.limit in omega arith
+
       old_or_new : (k : ℕ) (g : Guest L) → get floor'.guests k ≡ Some g → ((k ≡ key) × (guest ≡ g)) ⊎ (get floor.guests k ≡ Some g)
       old_or_new k g at =
           elim (cases_eq k key) [
             | inl here ↦ inl (here, some_inj guest g (sym updates.changed ∙ (ap (get floor'.guests) (sym here) ∙ at)))
             | inr there ↦ inr (sym (updates.others k there) ∙ at)
           ]
+
       below_next : (k : ℕ) (g : Guest L) → get floor.guests k ≡ Some g → g.number ≢ floor.came
       below_next k g at e = let below = (runs.guests k g at).below in absurd (omega (arith, e))
+
       new_guest : IsGuest look (runs.moves ++ last) runs.calls floor'.came present' guest
       new_guest = record {
         came = link;
@@ -423,12 +462,14 @@ module _ {L : Type 0} (look : L → Linked) where
         is_present = subst (Contains present') (sym number) (head_in floor.came runs.present);
         below = (let a = counts.came in omega (arith, number));
       }
+
       guests' : (k : ℕ) (g : Guest L) → get floor'.guests k ≡ Some g → IsGuest look (runs.moves ++ last) runs.calls floor'.came present' g
       guests' k g at = either (old_or_new k g at)
         where
           either : ((k ≡ key) × (guest ≡ g)) ⊎ (get floor.guests k ≡ Some g) → IsGuest look (runs.moves ++ last) runs.calls floor'.came present' g
           either (inl is) = subst (IsGuest look (runs.moves ++ last) runs.calls floor'.came present') is.1 new_guest
           either (inr is) = still_guest runs.moves last runs.calls runs.calls floor.came floor'.came runs.present present' g refl (let a = counts.came in omega arith) (λ p. Contains-cons floor.came g.number runs.present p) (runs.guests k g is)
+
       apart' : AreApart floor'.guests
       apart' k o g g' at at' same = either (old_or_new k g at) (old_or_new o g' at')
         where
@@ -437,12 +478,14 @@ module _ {L : Type 0} (look : L → Linked) where
           either (inl is) (inr is') = absurd (below_next o g' is' (sym same ∙ (ap (λ x. x.number) (sym is.1) ∙ number)))
           either (inr is) (inl is') = absurd (below_next k g is (same ∙ (ap (λ x. x.number) (sym is'.1) ∙ number)))
           either (inr is) (inr is') = runs.apart k o g g' is is' same
+
       none' : (n : ℕ) → n < floor.came → HasNone floor.guests n → HasNone floor'.guests n
       none' n below none k g at e = either (old_or_new k g at)
         where
           either : ((k ≡ key) × (guest ≡ g)) ⊎ (get floor.guests k ≡ Some g) → ⊥
           either (inl is) = let a : floor.came ≡ n = sym number ∙ (ap (λ x. x.number) is.1 ∙ e) in absurd (omega (arith, a, below))
           either (inr is) = none k g is e
+
       gone' : (moves : List (Move L)) → AllByRecursion (IsGone floor.guests floor.came) moves → AllByRecursion (IsGone floor'.guests floor'.came) moves
       gone' [] gone = tt
       gone' (takes_on n l ∷ moves) gone = (tt, gone' moves gone.1)

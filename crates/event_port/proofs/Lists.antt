@@ -1,14 +1,13 @@
 -- Lists of moves and of numbers, and what a slab tells of its values.
-use Rattle.std.proofs.Common.{zero, suc, get_or, Result, Ok, Err, OnOk, OnErr, ◌≡◌, ◌≢◌, ◌⊎◌, ◌∙◌, ℕ, ◌+◌, ◌<◌, ◌≤◌, List, [], ◌∷◌, ◌++◌, length, ◌==◌, cond, Contains, Option, Some, None, refl, sym, ap, subst, inl, inr, arith, eq-eqb, ne_eqb}
+use Rattle.std.proofs.Common.{zero, suc, get_or, Result, Ok, Err, OnOk, OnErr, ◌≡◌, ◌≢◌, ◌⊎◌, ◌∙◌, ℕ, ◌+◌, ◌<◌, ◌≤◌, List, [], ◌∷◌, ◌++◌, length, cond, Contains, Option, Some, None, refl, sym, ap, subst, inl, inr, arith, eq-eqb, ne_eqb}
 use Rattle.std.proofs.lemmas.Bool.{cases_eq}
-use Rattle.std.proofs.lemmas.List.{append-nil, append_assoc, length-append}
+use Rattle.std.proofs.lemmas.List.{append-nil, append_assoc}
 use Rattle.slab.proofs.SlabLemmas.{Contains-cons, Contains-cons_cases}
-use Rattle.slab.specs.Slab.{Slab, get, Updates}
 use Rattle.arc_core.specs.declared.ends.End.{End}
 use Rattle.arc_core.specs.declared.ends.End.TheVariants as end
 use Rattle.worker_server.specs.Ports.{links_then, then_returned}
 use Rattle.event_port.specs.Pollers.{PollerState, FailsOnce}
-use Rattle.event_port.specs.Moves.{Move, takes_on, hands_back, turns_away, Stand, stand, without, Moves, MovesThrough, came_by, went_by, served_by}
+use Rattle.event_port.specs.Moves.{Move, takes_on, hands_back, turns_away, Stand, without, Moves, MovesThrough, came_by, went_by, served_by}
 
 pub some_inj : {X : Type 0} (x y : X) → Some x ≡ Some y → x ≡ y
 some_inj {X} x y is = ap of is
@@ -98,6 +97,7 @@ still_in number other (first ∷ numbers) apart is =
     here : first ≡ number → (first ≡ other) ⊎ Contains numbers other → Contains numbers other
     here same (inl is') = absurd (apart (sym is' ∙ same))
     here same (inr rest) = rest
+
     there : (Contains numbers other → Contains (without number numbers) other) → (first ≡ other) ⊎ Contains numbers other → Contains (first ∷ without number numbers) other
     there more (inl is') = subst (λ n. Contains (n ∷ without number numbers) other) (sym is') (head_in other (without number numbers))
     there more (inr rest) = Contains-cons first other (without number numbers) (more rest)
@@ -122,7 +122,7 @@ served_is limit (turns_away number link ∷ moves) from to (middle, step, is) =
     let rest = served_is limit moves middle to is in let a = ap (λ s. s.taken_on) step.2 in let b = ap (λ s. length s.present) step.2 in omega arith
 
 pub few_of : (size length most : ℕ) → size ≡ length → size ≢ most → length ≤ most → length < most
-few_of size length most same differs few = elim (cases_eq size most) [ | inl is ↦ absurd (differs is) | inr apart ↦ grind (arith, same, few, apart) ]
+few_of size length most same differs few = elim (cases_eq size most) [ inl is ↦ absurd (differs is) | inr apart ↦ grind (arith, same, few, apart) ]
 
 pub nil_of : {X : Type 0} (xs : List X) → length xs ≡ 0 → xs ≡ []
 nil_of [] is = refl

@@ -1,6 +1,5 @@
 -- One session among many: what a turn over its desk says of it, whatever the seat and the clock did between its turns.
-use Rattle.std.proofs.Common.{◌≡◌, ◌∙◌, ℕ, false, List, [], ◌∷◌, ◌++◌, Option, Some, None, refl, sym, ap, subst}
-use Rattle.std.specs.List.{AllByRecursion}
+use Rattle.std.proofs.Common.{◌≡◌, ◌∙◌, ℕ, false, List, [], ◌∷◌, ◌++◌, Option, None, refl, sym, ap, subst}
 use Rattle.std.proofs.lemmas.List.{append-nil, append_assoc}
 use Rattle.arc_core.specs.declared.ends.End.{End}
 use Rattle.arc_core.specs.declared.ends.End.TheVariants as end
@@ -22,8 +21,8 @@ use Rattle.worker_server.specs.Sessions.{IsCallOf}
 use Rattle.worker_server.proofs.Serving.{has_called, all_own}
 use Rattle.event_port.specs.declared.guests.Guest.{Guest}
 use Rattle.event_port.specs.Desks.{Behind, behind}
-use Rattle.event_port.specs.Moves.{AnyAnswer, at_link}
-use Rattle.event_port.specs.Running.{GoesOnTicking, MadeCalls, StandsAt, IsOverWith, TurnedTo}
+use Rattle.event_port.specs.Moves.{AnyAnswer}
+use Rattle.event_port.specs.Running.{GoesOnTicking, MadeCalls, StandsAt, TurnedTo}
 use Rattle.event_port.proofs.Calls.{made_none, made_on}
 use Rattle.event_port.proofs.Clocks.{none_tick, ticked_before, ticked_behind, goes_on}
 use Rattle.event_port.proofs.Past.{Next, told_again, called_behind}
@@ -136,8 +135,8 @@ module _ {L D : Type 0} (look : L → Linked) (view : D → Behind) (put : List 
       let behind_told = called_behind view told entries (put told) desk' past none' served in
       let more = behind_told.more in
       let at_seat : Serves (IsCallOf number) seat more seat' =
-          subst (Serves (IsCallOf number) seat more) (gives (behind_told.same_name ∙ ap (λ v. v.name) (laws told)))
-          (subst (λ v. Serves (IsCallOf v.session) v.seat more (view desk').seat) (laws told) behind_told.served) in
+      subst (Serves (IsCallOf number) seat more) (gives (behind_told.same_name ∙ ap (λ v. v.name) (laws told)))
+      (subst (λ v. Serves (IsCallOf v.session) v.seat more (view desk').seat) (laws told) behind_told.served) in
       record {
         more = more;
         entries_are = behind_told.entries_are;
@@ -157,18 +156,24 @@ module _ {L D : Type 0} (look : L → Linked) (view : D → Behind) (put : List 
     where
       clock : (c : Option (List ℕ)) × TicksThrough c told coming
       clock = ticked_before told coming ticking
+
       into : Incoming
       into = (look came).incoming
+
       out : Outgoing
       out = (look came).outgoing
+
       began : Moment D
       began = moment (put told) (outside into out clock.0)
+
       so_far : SoFar (Next view) began (moment (put []) (outside (look guest.link).incoming (look guest.link).outgoing coming)) guest.session stands.0
       so_far = at_desk (Next view) (put told) (put []) clock.0 coming into (look guest.link).incoming out (look guest.link).outgoing guest.session stands.0 stands.1
           (subst (λ es. Serves (Next view) (put told) es (put [])) (sym stands.2) (told_again view put number seat name laws told))
           (subst (λ es. TicksThrough clock.0 es coming) (sym stands.2) clock.1)
+
       there : Deeds → Type 0
       there deeds = SoFar (Next view) began (moment desk' (outside (look guest'.link).incoming (look guest'.link).outgoing coming')) guest'.session deeds
+
       stood : (deeds : Deeds) → there deeds → (more : List Entry) × MadeCalls number more seat seat' coming coming' × StandsAt look came guest'.link guest'.session (told ++ more)
       stood deeds so =
           let calls = further told deeds.entries clock.0 clock.1 so.served so.seconds in (
@@ -176,6 +181,7 @@ module _ {L D : Type 0} (look : L → Linked) (view : D → Behind) (put : List 
             calls.made,
             (deeds, apart_from_desk (Next view) (put told) desk' clock.0 coming' into (look guest'.link).incoming out (look guest'.link).outgoing guest'.session deeds so, calls.entries_are),
           )
+
       by_answer : (a : Turn) → TurnLeaves (Next view) began (moment desk' (outside (look guest'.link).incoming (look guest'.link).outgoing coming')) agains agains' guest.session guest'.session stands.0 a
           → (more : List Entry) × MadeCalls number more seat seat' coming coming' × TurnedTo look came guest' (told ++ more) a
       by_answer turn.More is = stood is.0 is.1

@@ -158,11 +158,7 @@ pub(crate) fn turn_at<R: Wait, E: Executor + Drop, Q: Poller, C: Clock>(
 }
 
 // Has the poller watch the link of the guest with this key.
-fn watch_at<Q: Poller>(
-    poller: &mut Q,
-    floor: &mut Floor<Q::Link>,
-    key: usize,
-) -> Result<(), Failed>
+fn watch_at<Q: Poller>(poller: &mut Q, floor: &mut Floor<Q::Link>, key: usize) -> Result<(), Failed>
     ensures runs { (before now : EventState Q.Link) → Runs (λ link. linked (Q.Link.left link) (Q.Link.read_faults link) (Q.Link.sent link) (Q.Link.write_faults link) (Q.Link.refusals link) (Q.Link.agains link)) before (record now { poller = (poller_state (port_state (Q.links poller.old) (Q.returned poller.old) (Q.faults poller.old) (Q.refusals poller.old)) (Q.held poller.old)) }) floor.old
         → Runs (λ link. linked (Q.Link.left link) (Q.Link.read_faults link) (Q.Link.sent link) (Q.Link.write_faults link) (Q.Link.refusals link) (Q.Link.agains link)) before (record now { poller = (poller_state (port_state (Q.links poller.new) (Q.returned poller.new) (Q.faults poller.new) (Q.refusals poller.new)) (Q.held poller.new)) }) floor.new }
     ensures watched { OnOk result ((poller_state (port_state (Q.links poller.new) (Q.returned poller.new) (Q.faults poller.new) (Q.refusals poller.new)) (Q.held poller.new)) ≡ (poller_state (port_state (Q.links poller.old) (Q.returned poller.old) (Q.faults poller.old) (Q.refusals poller.old)) (Q.held poller.old))) }

@@ -35,12 +35,7 @@ pub struct MemoryPoller<L> {
 
 impl<L: Link + Drop> MemoryPoller<L> {
     /// A poller of these links, to which none came back; the calls in `failing` fail. Takes no memory.
-    pub fn new(
-        alloc: Global,
-        links: Vec<L>,
-        cues: Vec<Cue>,
-        failing: Vec<u64>,
-    ) -> MemoryPoller<L>
+    pub fn new(alloc: Global, links: Vec<L>, cues: Vec<Cue>, failing: Vec<u64>) -> MemoryPoller<L>
         ensures links { ⟦<MemoryPoller<L> as Poller>⟧.links result ≡ Some links.items }
         ensures returned { ⟦<MemoryPoller<L> as Poller>⟧.returned result ≡ Some [] }
         ensures no_fault { ⟦<MemoryPoller<L> as Poller>⟧.faults result ≡ 0 }

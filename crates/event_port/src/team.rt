@@ -98,12 +98,12 @@ fn run_alone<R: Wait, E: Executor + Drop, Q: Poller, C: Clock>(
 }
 
 // Runs all workers, each in a thread of its own.
-fn run_all<
-    R: Threads + Wait + Sync,
-    E: Executor + Drop + Send,
-    Q: Poller + Send,
-    C: Clock + Send,
->(rt: &R, alloc: Global, lock: &TurnLock<E>, workers: &mut [EventWorker<E, Q, C>])
+fn run_all<R: Threads + Wait + Sync, E: Executor + Drop + Send, Q: Poller + Send, C: Clock + Send>(
+    rt: &R,
+    alloc: Global,
+    lock: &TurnLock<E>,
+    workers: &mut [EventWorker<E, Q, C>],
+)
 where
     Q::Link: Send,
     requires { All (λ w. w.seat.lock ≡ lock.now) workers.old }

@@ -1,5 +1,4 @@
-use Rattle.std.proofs.Common.{◌≡◌, ◌∙◌, List, ◌++◌, refl, sym, ap}
-use Rattle.arc_core.specs.History.{Entry}
+use Rattle.std.proofs.Common.{◌∙◌, ◌++◌, refl}
 use Rattle.arc_core.specs.Outside.{Linked, linked}
 use Rattle.event_port.specs.Running.{StandsAt, IsOverWith}
 use Rattle.event_port.proofs.Sessions.{worked_none, worked_on, is_going}
@@ -37,8 +36,8 @@ loop-preserved g c =
       own = same_lock c.loop.seat next.0 c.turn_once.new.seat next.1.called ∙ c.loop.invariant.own;
       number = c.turn_once.ensures.number ∙ c.loop.invariant.number;
       stands = λ came told ticking stands.
-        worked_on look came c.args.guest.now.number c.loop.guest.number c.args.seat.now c.loop.seat c.turn_once.new.seat (coming c.args.clock.now) (coming c.loop.clock) (coming c.turn_once.new.clock) told c.loop.guest
-        (StandsAt look came c.turn_once.new.guest.link c.turn_once.new.guest.session) c.loop.invariant.number ticking (c.loop.invariant.stands came told ticking stands) (c.in-More.ensures.turned came);
+          worked_on look came c.args.guest.now.number c.loop.guest.number c.args.seat.now c.loop.seat c.turn_once.new.seat (coming c.args.clock.now) (coming c.loop.clock) (coming c.turn_once.new.clock) told c.loop.guest
+          (StandsAt look came c.turn_once.new.guest.link c.turn_once.new.guest.session) c.loop.invariant.number ticking (c.loop.invariant.stands came told ticking stands) (c.in-More.ensures.turned came);
     }
 
 pub returns-in-Again-clause-worked : goal.returns-in-Again-clause-worked
