@@ -2,7 +2,7 @@
 use Rattle.std.proofs.Common.{zero, suc, get_or, set, cond, count_by, is_some, ◌≡◌, ◌≢◌, ◌⊎◌, ◌∙◌, ℕ, ◌+◌, ◌<◌, ◌≤◌, List, [], ◌∷◌, ◌++◌, length, Contains, Option, Some, None, refl, sym, ap, subst, inl, inr, arith}
 use Rattle.std.specs.List.{AllByRecursion}
 use Rattle.std.proofs.lemmas.Bool.{cases_eq}
-use Rattle.std.proofs.lemmas.List.{append-nil, append_assoc, length-append}
+use Rattle.std.proofs.lemmas.List.{append-nil, append_assoc}
 use Rattle.slab.proofs.SlabLemmas.{Contains-cons}
 use Rattle.std.proofs.lemmas.List.Sums.{sum_by-cons}
 use Rattle.std.proofs.lemmas.List.Elements.{Contains-append_left, Contains-append_right}
@@ -11,19 +11,17 @@ use Rattle.arc_core.specs.declared.ends.End.{End}
 use Rattle.arc_core.specs.declared.ends.End.TheVariants as end
 use Rattle.arc_core.specs.History.{Entry}
 use Rattle.arc_core.specs.Outside.{Linked}
-use Rattle.pipe_session.specs.Desks.{TicksThrough}
-use Rattle.pipe_session.specs.Turns.{Standing, SoFar, no_deeds}
+use Rattle.pipe_session.specs.Turns.{SoFar, no_deeds}
 use Rattle.turn_lock.specs.Seats.{SeatView}
 use Rattle.worker_server.specs.Apart.{session_calls}
-use Rattle.worker_server.specs.Ports.{PortState, links_then, then_returned}
+use Rattle.worker_server.specs.Ports.{links_then, then_returned}
 use Rattle.worker_server.specs.declared.worker.WorkerEnd.{WorkerEnd}
 use Rattle.worker_server.specs.Workers.{EndsFor}
-use Rattle.worker_server.specs.Sessions.{IsOf, HasCalled}
 use Rattle.event_port.specs.declared.guests.Guest.{Guest}
 use Rattle.event_port.specs.declared.guests.Floor.{Floor}
 use Rattle.event_port.specs.Pollers.{PollerState, GivesOut, TakesIn}
 use Rattle.event_port.specs.Moves.{HasRunEvents, AnyAnswer, Stand, Move, takes_on, hands_back, turns_away, stand, without, IsFull, MovesThrough, came_by, went_by, EventState, IsOfSeat, at_link, IsServedAmong, IsUntouched, IsAnswered}
-use Rattle.event_port.specs.Running.{MadeCalls, SameNumbers, HasPlace, IsBegun, StandsAt, StandsSomehow, IsOverWith, HasNone, IsGone, IsGuest, Runs, OnlyReturns, HandsBack}
+use Rattle.event_port.specs.Running.{MadeCalls, SameNumbers, HasPlace, IsBegun, StandsAt, StandsSomehow, IsOverWith, HasNone, IsGone, IsGuest, Runs, HandsBack}
 use Rattle.pipe_session.specs.Outside.{moment, outside}
 use Rattle.event_port.proofs.Calls.{made_none, all_append, called_none, called_on, same_number, calls_own, calls_other, of_seat, ticks_for}
 use Rattle.event_port.proofs.Clocks.{ticks_on}

@@ -1,14 +1,13 @@
 -- Lists of moves and of numbers, and what a slab tells of its values.
-use Rattle.std.proofs.Common.{zero, suc, get_or, Result, Ok, Err, OnOk, OnErr, ◌≡◌, ◌≢◌, ◌⊎◌, ◌∙◌, ℕ, ◌+◌, ◌<◌, ◌≤◌, List, [], ◌∷◌, ◌++◌, length, ◌==◌, cond, Contains, Option, Some, None, refl, sym, ap, subst, inl, inr, arith, eq-eqb, ne_eqb}
+use Rattle.std.proofs.Common.{zero, suc, get_or, Result, Ok, Err, OnOk, OnErr, ◌≡◌, ◌≢◌, ◌⊎◌, ◌∙◌, ℕ, ◌+◌, ◌<◌, ◌≤◌, List, [], ◌∷◌, ◌++◌, length, cond, Contains, Option, Some, None, refl, sym, ap, subst, inl, inr, arith, eq-eqb, ne_eqb}
 use Rattle.std.proofs.lemmas.Bool.{cases_eq}
-use Rattle.std.proofs.lemmas.List.{append-nil, append_assoc, length-append}
+use Rattle.std.proofs.lemmas.List.{append-nil, append_assoc}
 use Rattle.slab.proofs.SlabLemmas.{Contains-cons, Contains-cons_cases}
-use Rattle.slab.specs.Slab.{Slab, get, Updates}
 use Rattle.arc_core.specs.declared.ends.End.{End}
 use Rattle.arc_core.specs.declared.ends.End.TheVariants as end
 use Rattle.worker_server.specs.Ports.{links_then, then_returned}
 use Rattle.event_port.specs.Pollers.{PollerState, FailsOnce}
-use Rattle.event_port.specs.Moves.{Move, takes_on, hands_back, turns_away, Stand, stand, without, Moves, MovesThrough, came_by, went_by, served_by}
+use Rattle.event_port.specs.Moves.{Move, takes_on, hands_back, turns_away, Stand, without, Moves, MovesThrough, came_by, went_by, served_by}
 
 pub some_inj : {X : Type 0} (x y : X) → Some x ≡ Some y → x ≡ y
 some_inj {X} x y is = ap of is

@@ -1,6 +1,5 @@
 -- One session among many: what a turn over its desk says of it, whatever the seat and the clock did between its turns.
-use Rattle.std.proofs.Common.{◌≡◌, ◌∙◌, ℕ, false, List, [], ◌∷◌, ◌++◌, Option, Some, None, refl, sym, ap, subst}
-use Rattle.std.specs.List.{AllByRecursion}
+use Rattle.std.proofs.Common.{◌≡◌, ◌∙◌, ℕ, false, List, [], ◌∷◌, ◌++◌, Option, None, refl, sym, ap, subst}
 use Rattle.std.proofs.lemmas.List.{append-nil, append_assoc}
 use Rattle.arc_core.specs.declared.ends.End.{End}
 use Rattle.arc_core.specs.declared.ends.End.TheVariants as end
@@ -22,8 +21,8 @@ use Rattle.worker_server.specs.Sessions.{IsCallOf}
 use Rattle.worker_server.proofs.Serving.{has_called, all_own}
 use Rattle.event_port.specs.declared.guests.Guest.{Guest}
 use Rattle.event_port.specs.Desks.{Behind, behind}
-use Rattle.event_port.specs.Moves.{AnyAnswer, at_link}
-use Rattle.event_port.specs.Running.{GoesOnTicking, MadeCalls, StandsAt, IsOverWith, TurnedTo}
+use Rattle.event_port.specs.Moves.{AnyAnswer}
+use Rattle.event_port.specs.Running.{GoesOnTicking, MadeCalls, StandsAt, TurnedTo}
 use Rattle.event_port.proofs.Calls.{made_none, made_on}
 use Rattle.event_port.proofs.Clocks.{none_tick, ticked_before, ticked_behind, goes_on}
 use Rattle.event_port.proofs.Past.{Next, told_again, called_behind}

@@ -1,7 +1,6 @@
 -- Event workers that have run, and a seat that meets the others'.
 use Rattle.std.proofs.Common.{◌≡◌, ℕ, suc, ◌<◌, List, [], ◌∷◌, length, map, get_or, refl, sym, ap, subst, arith}
 use Rattle.arc_core.specs.Outside.{Linked}
-use Rattle.turn_lock.specs.Seats.{SeatView}
 use Rattle.worker_server.specs.Workers.{HasMet}
 use Rattle.event_port.specs.Teams.{MemberState, HasRunAlone, AllRanEvents, HaveServedEvents}
 

@@ -1,5 +1,5 @@
 -- What the trait of pollers promises of a call: as of a port, and how many links are out.
-use Rattle.std.specs.Prelude.{◌≡◌, ℕ, ◌+◌, List, [], ◌∷◌, Option, IfSome}
+use Rattle.std.specs.Prelude.{◌≡◌, ℕ, ◌+◌, [], ◌∷◌, IfSome}
 use Rattle.arc_core.specs.declared.ends.End.{End}
 use Rattle.arc_core.specs.Outside.{Rose}
 use Rattle.event_port.specs.declared.pollers.Wake.{Wake}

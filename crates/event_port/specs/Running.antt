@@ -1,5 +1,5 @@
 -- How an event worker goes on, for the functions within: no public clause cites what stands here.
-use Rattle.std.specs.Prelude.{◌≡◌, ◌≢◌, ℕ, ◌+◌, ◌<◌, ◌≤◌, List, [], ◌∷◌, ◌++◌, length, Contains, Option, Some, None}
+use Rattle.std.specs.Prelude.{◌≡◌, ◌≢◌, ℕ, ◌+◌, ◌<◌, ◌≤◌, List, [], ◌∷◌, length, Contains, Option, Some, None}
 use Rattle.std.specs.List.{AllByRecursion}
 use Rattle.arc_core.specs.declared.ends.End.{End}
 use Rattle.arc_core.specs.History.{Entry}
@@ -12,7 +12,7 @@ use Rattle.slab.specs.Slab.{Slab, get, slab_len, Updates}
 use Rattle.turn_lock.specs.Seats.{SeatView}
 use Rattle.worker_server.specs.declared.worker.WorkerEnd.{WorkerEnd}
 use Rattle.worker_server.specs.Apart.{session_calls}
-use Rattle.worker_server.specs.Ports.{PortState, links_then, then_returned}
+use Rattle.worker_server.specs.Ports.{links_then, then_returned}
 use Rattle.worker_server.specs.Sessions.{IsOf, HasCalled}
 use Rattle.worker_server.specs.Workers.{EndsFor, SameFaults, SameRefusals}
 use Rattle.event_port.specs.declared.guests.Guest.{Guest}

@@ -1,9 +1,8 @@
-use Rattle.std.proofs.Common.{◌≡◌, ◌∙◌, ◌+◌, ◌≤◌, ◌<◌, refl, sym, ap, arith}
+use Rattle.std.proofs.Common.{◌∙◌}
 use Rattle.arc_core.specs.Outside.{Linked, linked}
-use Rattle.worker_server.specs.declared.worker.WorkerEnd.TheVariants as worker_end
 use Rattle.worker_server.specs.Ports.{port_state}
 use Rattle.event_port.specs.Pollers.{poller_state}
-use Rattle.event_port.proofs.Ending.{only_then, same_then, ends_from, ends_behind}
+use Rattle.event_port.proofs.Ending.{ends_behind}
 use Rattle.event_port.proofs.Floors.{begins, finished}
 use Rattle.event_port.specs.Moves.{event_state}
 use Rattle.event_port.proofs.events.run_events.Goals as goal

@@ -1,10 +1,5 @@
-use Rattle.std.proofs.Common.{◌≡◌, ◌∙◌, ◌+◌, ◌≤◌, ◌<◌, refl, sym, ap, arith}
-use Rattle.arc_core.specs.Outside.{Linked, linked}
-use Rattle.worker_server.specs.declared.worker.WorkerEnd.TheVariants as worker_end
-use Rattle.worker_server.specs.Ports.{port_state}
-use Rattle.event_port.specs.Pollers.{poller_state}
-use Rattle.event_port.proofs.Ending.{only_then, same_then, ends_from, ends_behind}
-use Rattle.event_port.proofs.Floors.{begins, finished}
+use Rattle.std.proofs.Common.{◌∙◌, arith}
+use Rattle.event_port.proofs.Ending.{ends_from}
 use Rattle.event_port.proofs.events.serve_links.Goals as goal
 
 pub returns-then-floor-clause-runs : goal.returns-then-floor-clause-runs

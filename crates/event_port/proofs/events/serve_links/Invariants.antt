@@ -4,7 +4,7 @@ use Rattle.worker_server.specs.Ports.{port_state}
 use Rattle.worker_server.specs.Workers.{SameFaults, SameRefusals}
 use Rattle.event_port.specs.Pollers.{poller_state}
 use Rattle.event_port.specs.Moves.{EventState, event_state}
-use Rattle.event_port.specs.Running.{Runs, OnlyReturns, SameNumbers}
+use Rattle.event_port.specs.Running.{Runs}
 use Rattle.event_port.proofs.events.serve_links.Given as goal
 
 -- what was done so far

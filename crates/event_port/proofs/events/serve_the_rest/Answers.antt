@@ -1,10 +1,6 @@
-use Rattle.std.proofs.Common.{◌≡◌, ◌∙◌, ◌+◌, ◌≤◌, ◌<◌, refl, sym, ap, arith}
-use Rattle.arc_core.specs.Outside.{Linked, linked}
-use Rattle.worker_server.specs.declared.worker.WorkerEnd.TheVariants as worker_end
 use Rattle.worker_server.specs.Ports.{port_state}
 use Rattle.event_port.specs.Pollers.{poller_state}
-use Rattle.event_port.proofs.Ending.{only_then, same_then, ends_from, ends_behind}
-use Rattle.event_port.proofs.Floors.{begins, finished}
+use Rattle.event_port.proofs.Ending.{only_then, same_then}
 use Rattle.event_port.proofs.events.serve_the_rest.Goals as goal
 
 pub turn_all-requires-clause-begun : goal.turn_all-requires-clause-begun

@@ -1,7 +1,6 @@
-use Rattle.std.proofs.Common.{◌≡◌, ◌≤◌}
+use Rattle.std.proofs.Common.{◌≡◌}
 use Rattle.arc_core.specs.Outside.{Linked, linked}
 use Rattle.worker_server.specs.Ports.{port_state}
-use Rattle.worker_server.specs.Workers.{SameFaults, SameRefusals}
 use Rattle.event_port.specs.Pollers.{poller_state}
 use Rattle.event_port.specs.Moves.{EventState, event_state}
 use Rattle.event_port.specs.Running.{Runs, OnlyReturns, SameNumbers}

@@ -1,9 +1,7 @@
-use Rattle.std.proofs.Common.{◌≡◌, ◌∙◌, refl, sym, ap, subst}
+use Rattle.std.proofs.Common.{◌∙◌, refl, ap}
 use Rattle.arc_core.specs.Outside.{Linked, linked}
-use Rattle.arc_core.specs.declared.ends.End.TheVariants as end
 use Rattle.event_port.specs.declared.guests.Guest.{Guest}
-use Rattle.event_port.specs.Pollers.{TakesIn}
-use Rattle.slab.specs.Slab.{Slab, get, slab_len}
+use Rattle.slab.specs.Slab.{get, slab_len}
 use Rattle.event_port.proofs.Sessions.{fresh_alone}
 use Rattle.event_port.proofs.Floors.{untouched, taken_on, takes_same}
 use Rattle.event_port.proofs.floor.take_on.Goals as goal

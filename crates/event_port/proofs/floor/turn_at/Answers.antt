@@ -1,10 +1,7 @@
-use Rattle.std.proofs.Common.{◌≡◌, ◌∙◌, is_some, IsSome, refl, sym, ap, subst}
+use Rattle.std.proofs.Common.{◌∙◌, is_some, refl, sym, ap}
 use Rattle.arc_core.specs.Outside.{Linked, linked}
 use Rattle.slab.proofs.SlabLemmas.{Updates-with_value}
 use Rattle.worker_server.specs.Apart.{session_calls}
-use Rattle.worker_server.specs.Ports.{port_state}
-use Rattle.event_port.specs.Pollers.{poller_state}
-use Rattle.event_port.specs.Moves.{event_state}
 use Rattle.event_port.proofs.Calls.{same_lock, ticks_for}
 use Rattle.event_port.proofs.Floors.{turned, ended, stands_somehow, some_held, same_count}
 use Rattle.event_port.proofs.floor.turn_at.Goals as goal

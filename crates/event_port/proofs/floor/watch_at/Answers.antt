@@ -1,7 +1,6 @@
-use Rattle.std.proofs.Common.{◌≡◌, ◌∙◌, is_some, refl, sym, ap}
+use Rattle.std.proofs.Common.{is_some, refl, sym, ap}
 use Rattle.arc_core.specs.Outside.{Linked, linked}
 use Rattle.slab.proofs.SlabLemmas.{Updates-with_value}
-use Rattle.event_port.specs.Pollers.{PollerState}
 use Rattle.event_port.proofs.Lists.{watch_keeps}
 use Rattle.event_port.proofs.Floors.{watched, same_count}
 use Rattle.event_port.proofs.floor.watch_at.Goals as goal

@@ -1,4 +1,4 @@
-use Rattle.std.proofs.Common.{◌≡◌, ◌∙◌, ◌⊎◌, refl, sym, ap, inl, inr, arith, rules}
+use Rattle.std.proofs.Common.{refl, inl, inr, arith}
 use Rattle.arc_core.specs.Outside.{Linked, linked}
 use Rattle.event_port.proofs.Floors.{turned_away}
 use Rattle.event_port.proofs.floor.welcome.Goals.{then-len-eq-MOST_LINKS-via-then-len-eq-MOST_LINKS, then-len-eq-MOST_LINKS-via-else-len-eq-MOST_LINKS+then-floor}

@@ -1,12 +1,11 @@
-use Rattle.std.proofs.Common.{◌≡◌, ◌∙◌, ◌<◌, length, get_or, refl, arith}
+use Rattle.std.proofs.Common.{◌∙◌, ◌<◌, length, get_or, arith}
 use Rattle.arc_core.specs.Outside.{Linked, linked}
 use Rattle.worker_server.specs.Ports.{port_state}
-use Rattle.worker_server.proofs.Meeting.{of_first, of_others}
 use Rattle.event_port.specs.declared.team.EventWorker.{EventWorker}
 use Rattle.event_port.specs.Pollers.{poller_state}
 use Rattle.event_port.specs.Moves.{event_state}
 use Rattle.event_port.specs.Teams.{MemberState, member_state}
-use Rattle.event_port.proofs.Teams.{all_ran, have_served, ran_by_names, same_lock_behind}
+use Rattle.event_port.proofs.Teams.{all_ran, ran_by_names, same_lock_behind}
 use Rattle.event_port.proofs.team.run_all.Goals as goal
 
 pub returns-clause-ran : goal.returns-clause-ran

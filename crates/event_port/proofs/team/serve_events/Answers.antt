@@ -1,4 +1,4 @@
-use Rattle.std.proofs.Common.{◌≡◌, ◌∙◌, ◌<◌, length, get_or, refl, arith}
+use Rattle.std.proofs.Common.{◌≡◌, refl}
 use Rattle.arc_core.specs.Outside.{Linked, linked}
 use Rattle.worker_server.specs.Ports.{port_state}
 use Rattle.worker_server.proofs.Meeting.{of_first, of_others}
@@ -6,7 +6,7 @@ use Rattle.event_port.specs.declared.team.EventWorker.{EventWorker}
 use Rattle.event_port.specs.Pollers.{poller_state}
 use Rattle.event_port.specs.Moves.{event_state}
 use Rattle.event_port.specs.Teams.{MemberState, member_state}
-use Rattle.event_port.proofs.Teams.{all_ran, have_served, ran_by_names, same_lock_behind}
+use Rattle.event_port.proofs.Teams.{have_served}
 use Rattle.event_port.proofs.team.serve_events.Goals as goal
 
 pub meet_all-requires-clause-own : goal.meet_all-requires-clause-own

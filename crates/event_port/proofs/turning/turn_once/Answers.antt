@@ -1,4 +1,4 @@
-use Rattle.std.proofs.Common.{◌≡◌, ◌∙◌, List, [], refl, sym, ap, subst, rules}
+use Rattle.std.proofs.Common.{◌∙◌, List, sym, ap, rules}
 use Rattle.arc_core.specs.History.{Entry}
 use Rattle.arc_core.specs.Outside.{Linked, linked}
 use Rattle.event_port.specs.Desks.{Behind, behind}

@@ -1,5 +1,4 @@
-use Rattle.std.proofs.Common.{◌≡◌, ◌∙◌, List, ◌++◌, refl, sym, ap}
-use Rattle.arc_core.specs.History.{Entry}
+use Rattle.std.proofs.Common.{◌∙◌, ◌++◌, refl}
 use Rattle.arc_core.specs.Outside.{Linked, linked}
 use Rattle.event_port.specs.Running.{StandsAt, IsOverWith}
 use Rattle.event_port.proofs.Sessions.{worked_none, worked_on, is_going}
