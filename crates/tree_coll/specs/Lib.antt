@@ -1,0 +1,3 @@
+pub mod TreeOutcomes
+pub mod TreeRows
+pub mod WorkedTreeRows
