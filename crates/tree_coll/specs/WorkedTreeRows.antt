@@ -1,5 +1,5 @@
 -- Worked examples of the rows on trees that compute.
-use Rattle.std.specs.Prelude.{◌≡◌, ℕ, ◌+◌, true, false, List, [], ◌∷◌, codes, Some, None, refl}
+use Rattle.std.specs.Prelude.{◌≡◌, ℕ, ◌+◌, true, false, List, [], ◌∷◌, codes, decimal, Some, None, refl}
 use Rattle.arc_core.specs.declared.attributes.Attrs.{Attrs}
 use Rattle.arc_core.specs.declared.bkeys.Bkey.TheVariants.{Number, Bytes}
 use Rattle.arc_core.specs.declared.bkeys.BkeyRange.{BkeyRange}
@@ -16,6 +16,7 @@ use Rattle.arc_core.specs.declared.rows.Tail.TheVariants as tail
 use Rattle.arc_core.specs.declared.trees.Edges.{Edges}
 use Rattle.arc_core.specs.declared.trees.Elem.{Elem}
 use Rattle.arc_core.specs.declared.trees.TreeRead.{TreeRead}
+use Rattle.arc_core.specs.Words as words
 use Rattle.tree_coll.specs.declared.replies.TreeReply.TheVariants as reply
 use Rattle.tree_coll.specs.declared.replies.TreeWord.TheVariants as word
 use Rattle.tree_coll.specs.TreeOutcomes.{TreeContents, empty_tree, stays, becomes, goes, refused, tree_row}
@@ -259,21 +260,23 @@ nothing_at_two = refl
 
 -- COUNTING
 
-counts_round : tree_arith true (Number 1) 18446744073709551615 None None plain (tree no_edges (elem 1 (codes "5") ∷ [])) ≡ becomes (tree no_edges (elem 1 (codes "4") ∷ [])) (reply.Number 4)
+counts_round : tree_arith true (Number 1) 18446744073709551615 None None plain (tree no_edges (elem 1 (codes "5") ∷ [])) ≡ becomes (tree no_edges (elem 1 (decimal 4) ∷ [])) (reply.Number 4)
+unfolding words.number_below
 counts_round = refl
 
 initial_is_put : tree_arith false (Number 2) 1 (Some 7) None plain (tree no_edges (elem 1 (codes "4") ∷ []))
-    ≡ becomes (tree no_edges (elem 1 (codes "4") ∷ elem 2 (codes "7") ∷ [])) (reply.Number 7)
+    ≡ becomes (tree no_edges (elem 1 (codes "4") ∷ elem 2 (decimal 7) ∷ [])) (reply.Number 7)
 initial_is_put = refl
 
 both_are_read : tree_get (read_of (from_to 2 1) 0 0) taking.Keep plain (tree no_edges (elem 1 (codes "4") ∷ elem 2 (codes "7") ∷ []))
     ≡ stays (reply.Rows 0 (tree_row (elem 2 (codes "7")) ∷ tree_row (elem 1 (codes "4")) ∷ []) tail.End)
 both_are_read = refl
 
-without_initial_nothing : tree_arith true (Number 2) 1 None None plain one_to_three ≡ refused word.NotFoundElement
+without_initial_nothing : tree_arith true (Number 9) 1 None None plain one_to_three ≡ refused word.NotFoundElement
 without_initial_nothing = refl
 
 text_is_no_number : tree_arith true (Number 2) 1 (Some 7) None plain one_to_three ≡ refused word.NotNumeric
+unfolding words.number_below
 text_is_no_number = refl
 
 -- POSITIONS
