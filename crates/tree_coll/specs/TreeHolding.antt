@@ -1,5 +1,8 @@
--- What contracts see of a tree as an item, and of a walk that a read took.
-use Rattle.std.specs.Prelude.{◌≡◌, ℕ, ◌&&◌, List, [], ◌∷◌}
+-- What contracts see of a tree as an item.
+use Rattle.std.specs.Prelude.{ℕ, zero, suc, List, Option, None}
+use Rattle.std.specs.Option.{option_map_or}
+use Rattle.arc_core.specs.declared.bkeys.Bkey.{Bkey}
+use Rattle.arc_core.specs.declared.bkeys.BkeyRange.{BkeyRange}
 use Rattle.arc_core.specs.declared.trees.Edges.{Edges}
 use Rattle.arc_core.specs.declared.trees.Elem.{Elem}
 use Rattle.tree_coll.specs.TreeOutcomes.{TreeContents}
@@ -12,3 +15,17 @@ pub record TreeHeld : Type 0 where
 -- elements and edges together
 abbrev pub contents_of : List Elem → Edges → TreeContents
 contents_of elements edges = record { elements = elements; edges = edges }
+
+-- a range up to a bkey, where there is one
+abbrev pub covered_to : BkeyRange → Option Bkey → BkeyRange
+covered_to range last = option_map_or (λ bkey. record { first = range.first; last = bkey }) last range
+
+-- the most elements that a read of a tree of so many answers: count 0 asks for all
+abbrev pub limit_of : (count all : ℕ) → ℕ
+limit_of zero all = all
+limit_of (suc n) all = suc n
+
+-- the bkey with which a read has its count: with count 0 there is none
+abbrev pub completed : (count : ℕ) → Option Bkey → Option Bkey
+completed zero last = None
+completed (suc n) last = last

@@ -3,8 +3,11 @@
 
 mod kinds;
 mod replies;
+mod tree;
+mod walk;
 mod zones;
 
 pub use kinds::is_of_kind;
 pub use replies::{TreeReply, TreeWord};
+pub use tree::TreeColl;
 pub use zones::meets_zone;
