@@ -130,7 +130,7 @@ last_end xs old new i zero lt inv none = refl
 last_end xs old new i (suc n) lt inv none = sym (ap (option_map (λ (x : Elem). x.bkey)) (none_past i (0 + n) xs (omega arith) (sym inv ∙ none.0)))
 
 completed_more : (xs : List Elem) (i m : ℕ) (x : Elem) → m ≡ suc i → slice_get xs i ≡ Some x → Some x.bkey ≡ option_map (λ (y : Elem). y.bkey) (completing 0 m xs)
-completed_more xs i m x is at = 
+completed_more xs i m x is at =
     let same : 0 + i ≡ i = omega arith in
     sym (ap (λ k. option_map (λ (y : Elem). y.bkey) (completing 0 k xs)) is ∙ ap (option_map (λ (y : Elem). y.bkey)) (ap (slice_get xs) same ∙ at))
 

@@ -1,5 +1,9 @@
 -- What contracts see of a tree as an item.
-use Rattle.std.specs.Prelude.{ℕ, zero, suc, List, Option, None}
+use Rattle.std.specs.Prelude.{ℕ, zero, suc, Bool, if◌then◌else◌, List, Option, None}
+use Rattle.arc_core.specs.declared.rows.Tail.{Tail}
+use Rattle.arc_core.specs.declared.rows.Tail.TheVariants as tail
+use Rattle.tree_coll.specs.declared.replies.TreeWord.{TreeWord}
+use Rattle.tree_coll.specs.declared.replies.TreeWord.TheVariants as word
 use Rattle.std.specs.Option.{option_map_or}
 use Rattle.arc_core.specs.declared.bkeys.Bkey.{Bkey}
 use Rattle.arc_core.specs.declared.bkeys.BkeyRange.{BkeyRange}
@@ -29,3 +33,10 @@ limit_of (suc n) all = suc n
 abbrev pub completed : (count : ℕ) → Option Bkey → Option Bkey
 completed zero last = None
 completed (suc n) last = last
+
+-- how a read ends that answers elements, and what one is answered that finds none, by whether it meets the zone
+abbrev pub zone_tail : Bool → Tail
+zone_tail met = if met then tail.Trimmed else tail.End
+
+abbrev pub zone_word : Bool → TreeWord
+zone_word met = if met then word.OutOfRange else word.NotFoundElement

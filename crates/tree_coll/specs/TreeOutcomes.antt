@@ -1,5 +1,5 @@
 -- What a tree is for the requests on it, and what a request comes to.
-use Rattle.std.specs.Prelude.{ℕ, ◌==◌, nat_lt, Bool, true, false, not, ◌&&◌, if◌then◌else◌, List, [], length, filter, slice_get, Option, Some, None}
+use Rattle.std.specs.Prelude.{nat_lt, Bool, true, false, not, ◌&&◌, if◌then◌else◌, List, [], filter, slice_get, Option, None}
 use Rattle.std.specs.List.{list_any}
 use Rattle.std.specs.Option.{option_map, option_map_or, option_or}
 use Rattle.arc_core.specs.declared.attributes.Attrs.{Attrs}

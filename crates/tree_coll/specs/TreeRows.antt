@@ -1,6 +1,6 @@
 -- What the requests on a tree do. (`bop` of the ARCUS protocol; edges, the zone of what was trimmed, and which reads are told
 -- of it are this server's own.)
-use Rattle.std.specs.Prelude.{ℕ, ◌+◌, ◌-◌, ◌^◌, ◌==◌, min, nat_lt, Bool, true, false, not, ◌&&◌, if◌then◌else◌, List, [], ◌∷◌, length, map, take, drop, reverse, decimal, Option, Some, None}
+use Rattle.std.specs.Prelude.{ℕ, ◌+◌, ◌-◌, ◌^◌, ◌==◌, min, nat_lt, Bool, true, false, ◌&&◌, if◌then◌else◌, List, [], ◌∷◌, length, map, take, drop, reverse, decimal, Option, Some, None}
 use Rattle.std.specs.Option.{option_map_or}
 use Rattle.arc_core.specs.declared.attributes.Attrs.{Attrs}
 use Rattle.arc_core.specs.declared.bkeys.Bkey.{Bkey}

@@ -1,5 +1,5 @@
 -- Worked examples of the rows on trees that compute.
-use Rattle.std.specs.Prelude.{◌≡◌, ℕ, ◌+◌, true, false, List, [], ◌∷◌, codes, decimal, Some, None, refl}
+use Rattle.std.specs.Prelude.{◌≡◌, ℕ, true, false, List, [], ◌∷◌, codes, decimal, Some, None, refl}
 use Rattle.arc_core.specs.declared.attributes.Attrs.{Attrs}
 use Rattle.arc_core.specs.declared.bkeys.Bkey.TheVariants.{Number, Bytes}
 use Rattle.arc_core.specs.declared.bkeys.BkeyRange.{BkeyRange}

@@ -38,12 +38,7 @@ pub(crate) fn is_bytes(bkey: &Bkey) -> bool
 
 /// Whether a bkey is of the tree's kind: that of its first bkey, or else of an edge. A tree without either has any. Takes no
 /// memory.
-pub fn is_of_kind<L: Ledger>(
-    bkey: &Bkey,
-    tree: &Tree,
-    edges: &Edges,
-    steps: &mut Steps<L>,
-) -> bool
+pub fn is_of_kind<L: Ledger>(bkey: &Bkey, tree: &Tree, edges: &Edges, steps: &mut Steps<L>) -> bool
     ensures { result ≡ is_of_kind bkey.now (contents_of tree.now.elements edges.now) }
 {
     match kind_bkey(tree, edges, steps) {

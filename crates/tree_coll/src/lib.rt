@@ -2,12 +2,14 @@
 #![tactic(auto)]
 
 mod kinds;
+mod reads;
 mod replies;
 mod tree;
 mod walk;
 mod zones;
 
 pub use kinds::is_of_kind;
+pub use reads::{count_tree, position_in_tree, read_tree};
 pub use replies::{TreeReply, TreeWord};
 pub use tree::TreeColl;
 pub use zones::meets_zone;

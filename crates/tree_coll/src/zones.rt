@@ -42,12 +42,7 @@ fn is_above_all<L: Ledger>(bkey: &Bkey, tree: &Tree, steps: &mut Steps<L>) -> bo
 }
 
 // Whether a bkey is in the low part of the zone.
-fn is_in_low_zone<L: Ledger>(
-    edges: &Edges,
-    tree: &Tree,
-    bkey: &Bkey,
-    steps: &mut Steps<L>,
-) -> bool
+fn is_in_low_zone<L: Ledger>(edges: &Edges, tree: &Tree, bkey: &Bkey, steps: &mut Steps<L>) -> bool
     ensures { result ≡ is_in_low_zone edges.now tree.now.elements bkey.now }
 {
     match &edges.low {
@@ -57,12 +52,7 @@ fn is_in_low_zone<L: Ledger>(
 }
 
 // Whether a bkey is in the high part of the zone.
-fn is_in_high_zone<L: Ledger>(
-    edges: &Edges,
-    tree: &Tree,
-    bkey: &Bkey,
-    steps: &mut Steps<L>,
-) -> bool
+fn is_in_high_zone<L: Ledger>(edges: &Edges, tree: &Tree, bkey: &Bkey, steps: &mut Steps<L>) -> bool
     ensures { result ≡ is_in_high_zone edges.now tree.now.elements bkey.now }
 {
     match &edges.high {

@@ -1,5 +1,3 @@
-use Rattle.std.proofs.Common.{rules}
-use Rattle.arc_core.specs.declared.trees.Elem.{Elem}
 use Rattle.tree_coll.specs.TreeOutcomes.{tree_row}
 use Rattle.tree_coll.proofs.WalkLemmas.{rows_end, last_end, skip_more, row_more, last_more}
 use Rattle.std.proofs.Common.{sym, ◌∙◌}

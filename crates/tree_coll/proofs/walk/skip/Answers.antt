@@ -1,4 +1,3 @@
-use Rattle.std.proofs.Common.{rules}
 use Rattle.tree_coll.proofs.WalkLemmas.{skip_end, skip_more}
 use Rattle.tree_coll.proofs.walk.skip.Goals as goal
 

@@ -1,7 +1,7 @@
 use Rattle.std.proofs.Common.{ap, ◌∙◌, drop}
 use Rattle.std.specs.List.{filter}
 use Rattle.arc_core.specs.TreeReading.{is_selected}
-use Rattle.tree_coll.specs.TreeHolding.{completed, covered_to}
+use Rattle.tree_coll.specs.TreeHolding.{covered_to}
 use Rattle.tree_coll.proofs.WalkLemmas.{chosen_rows, covered_is}
 use Rattle.tree_coll.proofs.walk.walk.Goals as goal
 
