@@ -1,13 +1,20 @@
 //! A tree as an item holds it.
 ghost use Rattle.std.specs.Prelude.{◌≡◌, ◌%◌, ◌^◌, ◌≤◌, length, OnOk, OnErr};
-ghost use Rattle.arc_core.specs.TreeContents.{elem_sizes};
+ghost use Rattle.std.specs.List.{remove_range};
+ghost use Rattle.arc_core.specs.TreeContents.{IsRising, bkey_size, elem_size, elem_sizes, with_element};
 ghost use Rattle.arc_core.specs.TreeReading.{keeps_edge};
-ghost use Rattle.tree_coll.specs.TreeOutcomes.{empty_tree};
+ghost use Rattle.btree_nodes.specs.Ways.{FitsKind};
+ghost use Rattle.btree_scan.specs.Positions.{position_in};
+ghost use Rattle.btree_scan.specs.declared.positions.Position.TheVariants.{Before};
+ghost use Rattle.tree_coll.specs.TreeOutcomes.{empty_tree, holding};
 
-use arc_core::{Edges, NoMemory};
+use arc_core::{Bkey, Edges, Elem, NoMemory};
 use btree_nodes::Tree;
 use std::alloc::Global;
 use std::marker::Model;
+
+// What the stated size of an element counts beside its bytes.
+const ELEMENT_BYTES: u64 = 48;
 
 /// The elements of a tree and its edges: up to which bkey it was trimmed at each end, where a trim was told.
 ///
@@ -95,4 +102,57 @@ impl TreeColl {
     {
         self.tree.reserve()
     }
+
+    /// Takes the elements from place `low` to before place `high` away, lowest bkey first and counted from 0, in one pass. The
+    /// edges stay. Takes no memory.
+    pub fn remove_places(&mut self, low: u32, high: u32)
+        requires order { low ≤ high }
+        requires within { high ≤ length self.old.contents.elements }
+        ensures contents { self.new.contents ≡ holding (remove_range self.old.contents.elements low high) self.old.contents }
+        ensures spare { self.old.spare ≤ self.new.spare }
+    {
+        let gone = self.tree.remove_range(low, high);
+        self.size = self.size.wrapping_sub(gone);
+    }
+
+    /// Puts an element in its place, for which there has to be room: `place` elements have smaller bkeys, and none has its
+    /// own. The edges stay. Takes no memory.
+    pub fn insert_spare(&mut self, place: u32, elem: Elem)
+        requires spare { 1 ≤ self.old.spare }
+        requires rising { IsRising self.old.contents.elements }
+        requires place { Before place ≡ position_in elem.bkey self.old.contents.elements }
+        requires kind { FitsKind elem.bkey self.old.contents.elements }
+        ensures contents { self.new.contents ≡ holding (with_element elem self.old.contents.elements) self.old.contents }
+    {
+        let gained = elem_size(&elem);
+        self.tree.insert_spare_at(place, elem);
+        self.size = self.size.wrapping_add(gained);
+    }
+
+    /// Lets the tree have other edges. Takes no memory.
+    pub fn set_edges(&mut self, edges: Edges)
+        ensures contents { self.new.contents ≡ record self.old.contents { edges = edges } }
+        ensures spare { self.new.spare ≡ self.old.spare }
+    {
+        self.edges = edges;
+    }
+}
+
+// The bytes that a bkey counts: its own, or 8 for a number.
+fn bkey_size(bkey: &Bkey) -> usize
+    ensures size { result ≡ bkey_size bkey.now }
+    ensures most { result ≤ 31 }
+{
+    match bkey {
+        Bkey::Number(_) => 8,
+        Bkey::Bytes(bytes) => bytes.bytes().len(),
+    }
+}
+
+// The stated size of an element, in bytes.
+fn elem_size(elem: &Elem) -> u64
+    ensures { result ≡ elem_size elem.now }
+{
+    let eflag = elem.eflag.as_ref().map_or(0, |eflag| eflag.bytes().len());
+    ELEMENT_BYTES + bkey_size(&elem.bkey) as u64 + eflag as u64 + elem.value.bytes().len() as u64
 }
