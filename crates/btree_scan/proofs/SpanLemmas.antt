@@ -70,7 +70,7 @@ eq_not_gt Less p rev eq = cc eq
 eq_not_gt Equal p rev eq = ap is_gt rev
 eq_not_gt Greater p rev eq = cc eq
 
-equal : (o : Ordering) → is_eq o ≡ true → o ≡ Equal
+pub equal : (o : Ordering) → is_eq o ≡ true → o ≡ Equal
 equal Less eq = cc eq
 equal Equal eq = refl
 equal Greater eq = cc eq
@@ -83,7 +83,7 @@ there bkey elements rising has =
       | inr past ↦ let none = absent_at bkey elements (place_of bkey elements) rising refl (λ d within. absurd (omega arith)) in cc
     ]
 
-eq_there : (bkey : Bkey) (elements : List Elem) (d : Elem) → IsRising elements → has_bkey bkey elements ≡ true → is_eq (bkey_cmp bkey (get_or elements (place_of bkey elements) d).bkey) ≡ true
+pub eq_there : (bkey : Bkey) (elements : List Elem) (d : Elem) → IsRising elements → has_bkey bkey elements ≡ true → is_eq (bkey_cmp bkey (get_or elements (place_of bkey elements) d).bkey) ≡ true
 eq_there bkey elements d rising has =
     elim (bool_cases (is_eq (bkey_cmp bkey (get_or elements (place_of bkey elements) d).bkey))) [
       | inl same ↦ same

@@ -89,8 +89,9 @@ fn ends(range: &BkeyRange) -> (Bkey, Bkey)
     }
 }
 
-/// The places of a range's elements: from the first to before the second.
-fn places<L: Ledger>(tree: &Tree, range: &BkeyRange, steps: &mut Steps<L>) -> (u32, u32)
+/// The places of a range's elements: from the first to before the second. Enters twice as many nodes as the tree is high, and
+/// takes no memory.
+pub fn places<L: Ledger>(tree: &Tree, range: &BkeyRange, steps: &mut Steps<L>) -> (u32, u32)
     ensures places { ArePlaces range.now tree.now.elements result.0 result.1 }
     ensures high { MayBeHigh (length tree.now.elements) tree.now.height }
     ensures steps { steps.new ≡ steps.old + 2 * tree.now.height }

@@ -8,5 +8,5 @@ mod positions;
 mod tests;
 mod way;
 
-pub use cursors::{Cursor, count_in};
+pub use cursors::{Cursor, count_in, places};
 pub use positions::{Position, at_position, position_of};

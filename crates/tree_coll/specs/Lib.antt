@@ -1,0 +1,4 @@
+pub mod TreeHolding
+pub mod TreeOutcomes
+pub mod TreeRows
+pub mod WorkedTreeRows
