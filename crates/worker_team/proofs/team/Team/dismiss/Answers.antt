@@ -1,4 +1,4 @@
-use Rattle.std.proofs.Common.{◌∙◌, refl, sym, ap, subst, map, length, arith}
+use Rattle.std.proofs.Common.{◌∙◌, refl, sym, ap, map, length, arith}
 use Rattle.worker_team.specs.Team.{hired}
 use Rattle.worker_team.proofs.Hiring.{map_through}
 use Rattle.worker_team.proofs.Disbanding.{rest_goes_on, has_room, member_goes_on, none_left, all_done}
@@ -8,7 +8,7 @@ pub push_reserved-requires : goal.push_reserved-requires
 push_reserved-requires g c =
     let inv = c.loop-worker.invariant in
     let room = has_room (λ m. m.port) (λ w. w.port) c.loop-worker.members.items c.into_iter-worker-iterator.result.rest.items c.loop-worker.yielded c.loop-worker.worker-iterator.rest.items
-        c.next.new.self.rest.items c.in-Some.worker _ inv.3 inv.2 c.in-Some.ensures.steps.0 inv.4 in
+    c.next.new.self.rest.items c.in-Some.worker _ inv.3 inv.2 c.in-Some.ensures.steps.0 inv.4 in
     omega (arith, room, c.loop-worker.members.ok)
 
 pub loop-worker-preserved : goal.loop-worker-preserved
