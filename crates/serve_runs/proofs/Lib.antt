@@ -1,2 +1,3 @@
 mod Handing
 mod Accounts
+mod Ending

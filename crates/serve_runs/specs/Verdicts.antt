@@ -1,5 +1,5 @@
 -- How the workers of a team ended, for the functions within: no public clause cites what stands here.
-use Rattle.std.specs.Prelude.{◌≡◌, ℕ, Bool, true, false, List}
+use Rattle.std.specs.Prelude.{◌≡◌, Bool, true, false, List}
 use Rattle.std.specs.List.{list_any}
 use Rattle.serve_runs.specs.Serving.{total_served}
 use Rattle.serve_runs.specs.declared.verdict.Verdict.{Verdict}

@@ -2,7 +2,7 @@
 ghost use Rattle.std.specs.Prelude.{◌≡◌, ◌≤◌, ◌+◌, ◌-◌, ◌==◌, ◌^◌, [], length, map, if◌then◌else◌};
 ghost use Rattle.std.specs.Thread.{IsSend, IsSync};
 ghost use Rattle.arc_core.specs.Outside.{linked, outgoing};
-ghost use Rattle.worker_ports.specs.Hands.{ports_state};
+ghost use Rattle.worker_ports.specs.Hands.{PortsState, ports_state};
 ghost use Rattle.worker_server.specs.Ports.{port_state};
 ghost use Rattle.serve_runs.specs.Serving.{Serves};
 ghost use Rattle.serve_runs.specs.Ending.{EndsStopped, EndsServed};
@@ -80,9 +80,9 @@ where
     let Ok(mut team) = Team::new(alloc, executor, job.workers as usize) else {
         return ServeEnd::NoMemory;
     };
-    if ports.bind(job.number).is_err() {
+    let Ok(()) = ports.bind(job.number) else {
         return ServeEnd::PortFault;
-    }
+    };
     match hire_all(&mut team, job.workers, job.sessions, ports, clock) {
         Ok(()) => run_team(rt, alloc, team, ports, sink),
         Err(stop) => send_away(team, stop, ports),

@@ -1,4 +1,4 @@
-use Rattle.std.proofs.Common.{◌≡◌, ◌∙◌, ◌==◌, ◌-◌, ◌^◌, ◌++◌, [], ◌∷◌, if◌then◌else◌, length, map, refl, ap, sym, subst, arith}
+use Rattle.std.proofs.Common.{◌≡◌, ◌∙◌, ◌==◌, ◌-◌, ◌^◌, ◌++◌, [], ◌∷◌, if◌then◌else◌, map, refl, ap, sym, subst, arith}
 use Rattle.std.specs.List.{AllByRecursion}
 use Rattle.worker_ports.specs.Hands.{PortsState, ports_state}
 use Rattle.worker_server.specs.Ports.{PortState, port_state}

@@ -1,4 +1,4 @@
-use Rattle.std.proofs.Common.{◌≡◌, ◌∙◌, ◌++◌, [], ◌∷◌, length, map, refl, ap, sym, subst, arith}
+use Rattle.std.proofs.Common.{◌∙◌, length, map, ap, sym, subst, arith}
 use Rattle.worker_ports.specs.Hands.{PortsState, ports_state}
 use Rattle.worker_server.specs.Ports.{PortState, port_state}
 use Rattle.serve_runs.specs.Serving.{TakesThrough}

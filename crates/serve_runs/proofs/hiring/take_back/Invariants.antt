@@ -1,6 +1,6 @@
 use Rattle.std.proofs.Common.{◌≡◌, ◌≤◌, ◌++◌, length, map}
-use Rattle.worker_ports.specs.Hands.{PortsState, ports_state}
-use Rattle.worker_server.specs.Ports.{PortState, port_state}
+use Rattle.worker_ports.specs.Hands.{ports_state}
+use Rattle.worker_server.specs.Ports.{port_state}
 use Rattle.serve_runs.specs.Serving.{TakesThrough}
 use Rattle.serve_runs.proofs.hiring.take_back.Given as goal
 

@@ -1,4 +1,4 @@
-use Rattle.std.proofs.Common.{◌≡◌, ◌∙◌, ◌||◌, take, ap, sym, arith}
+use Rattle.std.proofs.Common.{◌∙◌, ◌||◌, take, ap, sym, arith}
 use Rattle.serve_runs.specs.Verdicts.{has_failed, was_refused, any_failed, any_refused}
 use Rattle.serve_runs.proofs.Handing.{total_more, any_more}
 use Rattle.serve_runs.proofs.verdict.verdict_on.Goals as goal

@@ -1,4 +1,4 @@
-use Rattle.std.proofs.Common.{◌∙◌, refl, sym, ap, subst, map, length, arith}
+use Rattle.std.proofs.Common.{◌∙◌, refl, sym, ap, map, length, arith}
 use Rattle.worker_team.specs.Team.{hired}
 use Rattle.worker_team.proofs.Hiring.{map_through}
 use Rattle.worker_team.proofs.Disbanding.{rest_goes_on, has_room, member_goes_on, none_left, all_done}
