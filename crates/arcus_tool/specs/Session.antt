@@ -18,8 +18,7 @@ use Rattle.arcus_tool.specs.declared.status.Status.TheVariants as status
 
 -- A field that is data, in a record whose other fields are facts, means: there is such a value.
 
--- whether an open group of units at the session's end is answered too (each unit is a group by itself as yet, so that
--- this has no effect)
+-- whether a run of piped commands that is open at the session's end is answered too
 abbrev pub is_closed : Status → Bool
 is_closed status.ReadFault = false
 is_closed status.LongInput = false

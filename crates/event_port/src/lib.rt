@@ -1,4 +1,4 @@
-//! Event workers, which serve many links at once, and the real sockets.
+//! Event workers, each of which serves many links at once.
 //!
 //! `pollers.rt` has what tells a worker which links are ready, and `memory.rt` one over memory; `desk.rt` what a session's
 //! requests go to, `guests.rt` the links that are open, `turning.rt` the turns of one, `floor.rt` how they come and go, and

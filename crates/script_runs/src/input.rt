@@ -14,7 +14,7 @@ const AT_ONCE: usize = 16384;
 
 /// What came of reading a source to its end.
 #[derive(Drop)]
-pub(crate) enum Input {
+pub enum Input {
     /// All bytes that were left, at most 2^28.
     Whole(Vec<u8>),
     /// The source failed.
@@ -33,7 +33,7 @@ fn zeros(alloc: Global, len: usize) -> Result<Vec<u8>, NoMemory>
 }
 
 /// Takes all bytes that the source has left.
-pub(crate) fn read_whole<S: Source>(alloc: Global, source: &mut S) -> Input
+pub fn read_whole<S: Source>(alloc: Global, source: &mut S) -> Input
     ensures { Gathered (incoming (S.left source.old) (S.read_faults source.old)) (incoming (S.left source.new) (S.read_faults source.new)) result }
 {
     match zeros(alloc, AT_ONCE) {

@@ -1,7 +1,7 @@
-//! Runs of scripts: many sessions over one cache, by several workers side by side.
+//! Scripts of sessions: what is read of them, and what is written of the sessions that they hold.
 //!
-//! `input` reads a source to its end, `script` reads a script's sessions, `serving` deals them to workers and serves them,
-//! `output` writes what came of them, and `run` is all of it.
+//! `input` reads a source to its end, `script` reads a script's sessions, `output` writes what came of one, and `run` has the
+//! ways in which a run of a script ends. The run itself is stated in `specs/Runs.antt`, and has no code yet.
 #![tactic(auto)]
 
 mod input;
@@ -9,5 +9,7 @@ mod output;
 mod run;
 mod script;
 
+pub use input::{Input, read_whole};
+pub use output::write_outcome;
 pub use run::RunEnd;
-pub use script::plain_number;
+pub use script::{ScriptFault, plain_number, read_script};

@@ -19,7 +19,7 @@ const MOST_PIECE_BYTES: u64 = 1 << 28;
 
 /// Why a text was not read as a script.
 #[derive(Clone, Copy, Debug, PartialEq, Eq)]
-pub(crate) enum ScriptFault {
+pub enum ScriptFault {
     /// It is none: its first bad part begins at this offset.
     Bad(usize),
     /// Memory was refused.
@@ -143,7 +143,7 @@ fn behind_end_line(text: &[u8]) -> &[u8]
 }
 
 /// Reads a script: a link for each of its sessions, to which nothing was sent.
-pub(crate) fn read_script(alloc: Global, text: &[u8]) -> Result<Vec<SteadyLink>, ScriptFault>
+pub fn read_script(alloc: Global, text: &[u8]) -> Result<Vec<SteadyLink>, ScriptFault>
     ensures { IsReadAs
         (λ link. linked (⟦<SteadyLink as Link>⟧.left link) (⟦<SteadyLink as Link>⟧.read_faults link) (⟦<SteadyLink as Link>⟧.sent link) (⟦<SteadyLink as Link>⟧.write_faults link) (⟦<SteadyLink as Link>⟧.refusals link) (⟦<SteadyLink as Link>⟧.agains link))
         text.now (ok_as (λ links. links.items) result) }
