@@ -17,7 +17,8 @@ pub struct EventListener {
 }
 
 impl EventListener {
-    /// Binds 127.0.0.1 with this port, for so many workers.
+    /// Binds 127.0.0.1 with this port, for so many workers. An error is the system's, or want of memory. (No clause can say what
+    /// the system gives, here and below.)
     pub fn bind<R: Net>(
         net: &R,
         alloc: Global,
@@ -34,12 +35,13 @@ impl EventListener {
         })
     }
 
-    /// The port that was bound: where 0 was asked, the one that the system chose.
+    /// The port that was bound: where 0 was asked, the one that the system chose. An error is the system's.
     pub fn port(&self) -> io::Result<u16> {
         Ok(self.listener.local_addr()?.port())
     }
 
-    /// The poller of a further worker. Beyond the number of workers its connections are not counted.
+    /// The poller of a further worker. Beyond the number of workers its connections are not counted. An error is the system's, or
+    /// want of memory.
     pub fn poller<R: Net>(&mut self, net: &R, alloc: Global) -> io::Result<EventPoller> {
         let place = self.next;
         self.next = self.next.saturating_add(1).min(self.workers);
