@@ -47,7 +47,7 @@ module _ {L : Type 0} (look : L → Linked) where
   still_gone : (old new : Slab (Guest L)) → NumbersFrom old new → (came came' : ℕ) → came ≤ came' → (moves : List (Move L)) → AllByRecursion (IsGone old came) moves → AllByRecursion (IsGone new came') moves
   still_gone old new from came came' more [] gone = tt
   still_gone old new from came came' more (takes_on number link ∷ moves) gone = (tt, still_gone old new from came came' more moves gone.1)
-  still_gone old new from came came' more (hands_back number link ended ∷ moves) gone =
+  still_gone old new from came came' more (hands_back number link _ ∷ moves) gone =
       let below = gone.0.0 in ((omega arith, still_none old new from number gone.0.1), still_gone old new from came came' more moves gone.1)
   still_gone old new from came came' more (turns_away number link ∷ moves) gone =
       let below = gone.0.0 in ((omega arith, still_none old new from number gone.0.1), still_gone old new from came came' more moves gone.1)

@@ -32,7 +32,7 @@ moves_on limit (first ∷ moves) move from middle to (at, step', is) step = (at,
 pub came_append : {L : Type 0} (front back : List (Move L)) → came_by (front ++ back) ≡ came_by front ++ came_by back
 came_append [] back = refl
 came_append (takes_on number link ∷ front) back = ap (λ ls. link ∷ ls) (came_append front back)
-came_append (hands_back number link ended ∷ front) back = came_append front back
+came_append (hands_back number link _ ∷ front) back = came_append front back
 came_append (turns_away number link ∷ front) back = ap (λ ls. link ∷ ls) (came_append front back)
 
 pub went_append : {L : Type 0} (front back : List (Move L)) → went_by (front ++ back) ≡ went_by front ++ went_by back
@@ -112,7 +112,7 @@ pub served_is : {L : Type 0} (limit : ℕ) (moves : List (Move L)) (from to : St
 served_is limit [] from to is = let a = ap (λ s. s.taken_on) is in let b = ap (λ s. length s.present) is in omega arith
 served_is limit (takes_on number link ∷ moves) from to (middle, step, is) =
     let rest = served_is limit moves middle to is in let a = ap (λ s. s.taken_on) step.3 in let b = ap (λ s. length s.present) step.3 in omega arith
-served_is limit (hands_back number link ended ∷ moves) from to (middle, step, is) =
+served_is limit (hands_back number link _ ∷ moves) from to (middle, step, is) =
     let rest = served_is limit moves middle to is in
     let a = ap (λ s. s.taken_on) step.1 in
     let b = ap (λ s. length s.present) step.1 in

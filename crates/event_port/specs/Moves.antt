@@ -47,7 +47,7 @@ abbrev pub Moves : {L : Type 0} → (limit : ℕ) → Stand → Move L → Stand
 Moves limit from (takes_on number link) to =
     (number ≡ from.came) × (length from.present < 1024) × (from.taken_on < limit)
     × (to ≡ stand (from.came + 1) (from.taken_on + 1) (number ∷ from.present))
-Moves limit from (hands_back number link ended) to =
+Moves limit from (hands_back number link _) to =
     Contains from.present number × (to ≡ stand from.came from.taken_on (without number from.present))
 Moves limit from (turns_away number link) to =
     (number ≡ from.came) × IsFull limit from × (to ≡ stand (from.came + 1) from.taken_on from.present)
@@ -61,7 +61,7 @@ MovesThrough limit from (move ∷ moves) to = (middle : Stand) × Moves limit fr
 abbrev pub came_by : {L : Type 0} → List (Move L) → List L
 came_by [] = []
 came_by (takes_on number link ∷ moves) = link ∷ came_by moves
-came_by (hands_back number link ended ∷ moves) = came_by moves
+came_by (hands_back number link _ ∷ moves) = came_by moves
 came_by (turns_away number link ∷ moves) = link ∷ came_by moves
 
 -- the links that were handed back, in their order, each with its end
@@ -75,7 +75,7 @@ went_by (turns_away number link ∷ moves) = (link, end.Crowded) ∷ went_by mov
 abbrev pub served_by : {L : Type 0} → List (Move L) → ℕ
 served_by [] = 0
 served_by (takes_on number link ∷ moves) = served_by moves
-served_by (hands_back number link ended ∷ moves) = served_by moves + 1
+served_by (hands_back number link _ ∷ moves) = served_by moves + 1
 served_by (turns_away number link ∷ moves) = served_by moves
 
 -- A snapshot of what an event worker works with: its poller, the seconds of its clock that are to come, where they are told,

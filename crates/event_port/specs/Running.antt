@@ -63,7 +63,7 @@ module _ {L : Type 0} where
   -- a number that was handed back, or turned away, is no guest's
   abbrev pub IsGone : Slab (Guest L) → ℕ → Move L → Type 0
   IsGone guests came (takes_on number link) = Unit {0}
-  IsGone guests came (hands_back number link ended) = (number < came) × HasNone guests number
+  IsGone guests came (hands_back number link _) = (number < came) × HasNone guests number
   IsGone guests came (turns_away number link) = (number < came) × HasNone guests number
 
   -- Each link that came back, and no other thing of the poller but how many are out.
