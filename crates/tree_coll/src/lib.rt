@@ -3,6 +3,7 @@
 
 mod edges;
 mod kinds;
+mod places;
 mod reads;
 mod replies;
 mod tree;
@@ -11,6 +12,7 @@ mod zones;
 
 pub use edges::refused_edges;
 pub use kinds::is_of_kind;
+pub use places::{around, by_position};
 pub use reads::{count_tree, position_in_tree, read_tree};
 pub use replies::{TreeReply, TreeWord};
 pub use tree::TreeColl;
