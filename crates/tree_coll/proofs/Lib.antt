@@ -1,3 +1,5 @@
+pub mod ChangeLemmas
+pub mod FoundLemmas
 pub mod PlaceLemmas
 pub mod ReadLemmas
 pub mod SizeLemmas

@@ -13,7 +13,7 @@ pub one_more : (xs : List Elem) (i : ℕ) (x : Elem) (rows new : List Row) → s
 one_more xs i x rows new at so_far now =
     now ∙ ap (λ l. l ++ tree_row x ∷ []) so_far
     ∙ sym (ap (map tree_row) (take_more xs i x (slice_get_within xs i x at)) ∙ map_push tree_row (take i xs) (get_or xs i x)
-        ∙ ap (λ y. map tree_row (take i xs) ++ tree_row y ∷ []) (get_or_from_slice_get xs i x x at))
+    ∙ ap (λ y. map tree_row (take i xs) ++ tree_row y ∷ []) (get_or_from_slice_get xs i x x at))
 
 -- fewer than all elements come before one of them
 pub before_within : (desc : Bool) (xs : List Elem) (place position : ℕ) → place < length xs → position ≡ (if desc then length xs - 1 - place else place) → position < length xs

@@ -1,6 +1,7 @@
 //! Trees as items: what the commands on trees do to one, over its elements and its edges.
 #![tactic(auto)]
 
+mod changes;
 mod edges;
 mod kinds;
 mod places;
@@ -10,6 +11,7 @@ mod tree;
 mod walk;
 mod zones;
 
+pub use changes::update_tree;
 pub use edges::refused_edges;
 pub use kinds::is_of_kind;
 pub use places::{around, by_position};
