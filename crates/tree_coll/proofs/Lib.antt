@@ -1,4 +1,5 @@
 pub mod ChangeLemmas
+pub mod CountLemmas
 pub mod FoundLemmas
 pub mod PlaceLemmas
 pub mod ReadLemmas

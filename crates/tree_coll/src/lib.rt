@@ -11,7 +11,7 @@ mod tree;
 mod walk;
 mod zones;
 
-pub use changes::update_tree;
+pub use changes::{arith_tree, update_tree};
 pub use edges::refused_edges;
 pub use kinds::is_of_kind;
 pub use places::{around, by_position};
