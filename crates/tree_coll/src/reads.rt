@@ -96,8 +96,8 @@ pub fn count_tree<L: Ledger>(
     TreeReply::Count(count_in(held.tree(), range, filter, steps))
 }
 
-// How many elements come before one in a place, in the order asked for.
-fn number_before(held: &TreeColl, place: u32, desc: bool) -> u32
+/// How many elements come before one in a place, in the order asked for; or its place, by how many come before it.
+pub(crate) fn number_before(held: &TreeColl, place: u32, desc: bool) -> u32
     requires { place < length held.now.contents.elements }
     ensures { result ≡ (if desc then length held.now.contents.elements - 1 - place else place) }
 {

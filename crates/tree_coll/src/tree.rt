@@ -5,7 +5,7 @@ ghost use Rattle.arc_core.specs.TreeContents.{IsRising, bkey_size, elem_size, el
 ghost use Rattle.arc_core.specs.TreeReading.{keeps_edge};
 ghost use Rattle.btree_nodes.specs.Ways.{FitsKind};
 ghost use Rattle.btree_scan.specs.Positions.{position_in};
-ghost use Rattle.btree_scan.specs.declared.positions.Position.TheVariants.{Before};
+ghost use Rattle.btree_scan.specs.declared.positions.Position.TheVariants.{At, Before};
 ghost use Rattle.tree_coll.specs.TreeOutcomes.{empty_tree, holding};
 
 use arc_core::{Bkey, Edges, Elem, NoMemory};
@@ -127,6 +127,19 @@ impl TreeColl {
         let gained = elem_size(&elem);
         self.tree.insert_spare_at(place, elem);
         self.size = self.size.wrapping_add(gained);
+    }
+
+    /// Puts an element in the place of the one that has its bkey. The edges stay. Takes no memory.
+    pub fn replace(&mut self, place: u32, elem: Elem)
+        requires rising { IsRising self.old.contents.elements }
+        requires place { At place ≡ position_in elem.bkey self.old.contents.elements }
+        ensures contents { self.new.contents ≡ holding (with_element elem self.old.contents.elements) self.old.contents }
+        ensures spare { self.new.spare ≡ self.old.spare }
+    {
+        let gained = elem_size(&elem);
+        let old = self.tree.replace(place, elem);
+        let lost = elem_size(&old);
+        self.size = self.size.wrapping_add(gained).wrapping_sub(lost);
     }
 
     /// Lets the tree have other edges. Takes no memory.
