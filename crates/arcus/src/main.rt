@@ -4,10 +4,11 @@
 ghost use Rattle.std.specs.Prelude.{◌≡◌, drop, MatchResult};
 ghost use Rattle.std.specs.Process.{exit_status as code_of};
 ghost use Rattle.arcus.specs.Refusals.{refusal_of};
-ghost use Rattle.arcus_tool.specs.Words.{exit_status};
+ghost use Rattle.arcus_tool.specs.Statuses.{exit_status};
 ghost use Rattle.arcus_tool.specs.declared.status.Status.TheVariants as status;
 
 use arcus_tool::{Status, StdSink, StdSource, WallClock, World, run};
+use net_ports::NetPorts;
 use std::alloc::Global;
 use std::env;
 use std::io::{self, ErrorKind};
@@ -45,20 +46,6 @@ fn refusal(kind: ErrorKind) -> Status
     }
 }
 
-fn run_here(rt: &HostRuntime) -> Status {
-    let words = match words(rt) {
-        Ok(words) => words,
-        Err(status) => return status,
-    };
-    let mut world = World {
-        source: StdSource::new(rt.reader()),
-        sink: StdSink::new(io::writer(rt)),
-        ports: (),
-        clock: WallClock::new(rt),
-    };
-    run(rt.alloc(), &words, &mut world)
-}
-
 // What the process ends with: the number of the status.
 fn exit_code(status: Status) -> ExitCode
     ensures { code_of result ≡ exit_status status }
@@ -67,7 +54,16 @@ fn exit_code(status: Status) -> ExitCode
 }
 
 fn main(rt: HostRuntime) -> ExitCode {
-    let status = run_here(&rt);
+    let mut world = World {
+        source: StdSource::new(rt.reader()),
+        sink: StdSink::new(io::writer(&rt)),
+        ports: NetPorts::new(&rt, rt.alloc()),
+        clock: WallClock::new(&rt),
+    };
+    let status = match words(&rt) {
+        Ok(words) => run(&rt, rt.alloc(), &words, &mut world),
+        Err(refused) => refused,
+    };
     if status != Status::Done {
         // Where standard error takes nothing, the exit status still tells.
         let _told = eprintln!(rt; "{status}");

@@ -6,7 +6,9 @@ use crate::harness::{
 use arcus_tool::Status;
 use std::alloc::{AllocError, Global};
 use std::process::Abort;
+use std::sync::Wait;
 use std::test::Fail;
+use std::thread::Threads;
 
 // Lines whose first word is a command, and whose further words do not spell it: words that are missing or too many, and
 // numbers past their limits.
@@ -303,8 +305,8 @@ const UNKNOWN: [&str; 22] = [
 ];
 
 // Each of the lines has this answer, and the line behind it is read as a line: no block is taken.
-fn expect_refused(
-    rt: &impl Abort,
+fn expect_refused<R: Abort + Threads + Wait + Sync>(
+    rt: &R,
     alloc: Global,
     lines: &[&str],
     answer: &str,
@@ -748,7 +750,7 @@ fn so_many_keys_and_fields_are_named(rt: HostRuntime) -> Result<(), Fail> {
         }
         add_text(&mut wanted, ending)?;
         add_text(&mut wanted, "VERSION arcus-profile-2|")?;
-        expect_bytes(&rt, text, played.sink.bytes(), &wanted);
+        expect_bytes(&rt, text, played.world.sink.bytes(), &wanted);
         assert_eq!(rt; played.status, Status::Done);
     }
     Ok(())

@@ -1,9 +1,9 @@
 //! The real source, sink and clock, over objects of std.
 
-use crate::harness::{bytes_of, words_of};
+use crate::harness::{bytes_of, no_ports, words_of};
 use crate::play;
 use arc_core::{Clock, Pull, Push, Sink, Source};
-use arcus_tool::{Status, StdSink, StdSource, WallClock};
+use arcus_tool::{Status, StdSink, StdSource, WallClock, World};
 use std::io::{self, ErrorKind, Read, Write};
 use std::test::Fail;
 
@@ -137,9 +137,13 @@ fn a_session_runs_on_the_real_outside(rt: HostRuntime) -> Result<(), Fail> {
     let output = bytes_of(alloc, "STORED|VALUE a 0 1|x|END|STORED|END|")?;
     for (len, status) in [(42, Status::Done), (41, Status::WriteFault)] {
         let mut sent = vec![in alloc; b'.'; len]?;
-        let source = StdSource::new(input.as_slice());
-        let sink = StdSink::new(sent.as_mut_slice());
-        let played = play(alloc, &words, source, sink, WallClock::new(&rt));
+        let world = World {
+            source: StdSource::new(input.as_slice()),
+            sink: StdSink::new(sent.as_mut_slice()),
+            ports: no_ports(alloc),
+            clock: WallClock::new(&rt),
+        };
+        let played = play(&rt, alloc, &words, world);
         assert_eq!(rt; played.status, status);
         assert!(rt; output.starts_with(&sent));
     }
@@ -160,9 +164,13 @@ fn a_session_ends_at_a_read_fault(rt: HostRuntime) -> Result<(), Fail> {
         Event::Byte(b'\n'),
     ];
     let mut sent = [b'.'; 24];
-    let source = StdSource::new(Eventful(&events));
-    let sink = StdSink::new(sent.as_mut_slice());
-    let played = play(alloc, &words, source, sink, WallClock::new(&rt));
+    let world = World {
+        source: StdSource::new(Eventful(&events)),
+        sink: StdSink::new(sent.as_mut_slice()),
+        ports: no_ports(alloc),
+        clock: WallClock::new(&rt),
+    };
+    let played = play(&rt, alloc, &words, world);
     assert_eq!(rt; played.status, Status::ReadFault);
     assert_eq!(rt; sent, *b"ERROR unknown command\r\n.");
     Ok(())

@@ -12,7 +12,9 @@ use crate::harness::{ONE_MIB, Setting, add_text, expect, expect_bytes, expect_ro
 use arcus_tool::Status;
 use std::alloc::{AllocError, Global};
 use std::process::Abort;
+use std::sync::Wait;
 use std::test::Fail;
+use std::thread::Threads;
 
 // A command, its reply, and what is held then: each key with the length of its value, whose bytes are all `x`.
 type Step = (&'static str, &'static str, &'static [(&'static str, usize)]);
@@ -237,7 +239,11 @@ const ORDER_OF_USE: [Step; 15] = [
 ];
 
 // Each step is the last one of a session of its own, so that asking what is held then does not change the order of use.
-fn expect_steps(rt: &impl Abort, alloc: Global, steps: &[Step]) -> Result<(), AllocError> {
+fn expect_steps<R: Abort + Threads + Wait + Sync>(
+    rt: &R,
+    alloc: Global,
+    steps: &[Step],
+) -> Result<(), AllocError> {
     let mut commands = Vec::new(alloc);
     let mut replies = Vec::new(alloc);
     for (command, reply, held) in steps {
@@ -254,7 +260,7 @@ fn expect_steps(rt: &impl Abort, alloc: Global, steps: &[Step]) -> Result<(), Al
         }
         add_text(&mut output, "END|")?;
         let played = run_on(rt, alloc, ONE_MIB, input)?;
-        expect_bytes(rt, command, played.sink.bytes(), &output);
+        expect_bytes(rt, command, played.world.sink.bytes(), &output);
         assert_eq!(rt; played.status, Status::Done, "{}", command);
     }
     Ok(())

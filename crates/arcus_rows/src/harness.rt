@@ -4,10 +4,21 @@
 //! `{3x2y}` stands for `xxxyy`.
 
 use crate::{Played, play};
-use arc_core::{ListClock, MemorySink, MemorySource};
-use arcus_tool::Status;
+use arc_core::{ListClock, MemoryLink, MemorySink, MemorySource};
+use arcus_tool::{Status, World};
+use event_ports::MemoryEventPorts;
 use std::alloc::{AllocError, Global};
 use std::process::Abort;
+use std::sync::Wait;
+use std::thread::Threads;
+
+/// A run of the program over an outside in memory.
+pub(crate) type RowPlayed = Played<
+    MemorySource,
+    MemorySink,
+    MemoryEventPorts<MemoryLink>,
+    ListClock,
+>;
 
 /// As many bytes as a pull or a push asks for.
 pub(crate) const AT_ONCE: usize = 1 << 20;
@@ -96,24 +107,34 @@ pub(crate) fn words_of(alloc: Global, words: &[&str]) -> Result<Vec<String>, All
 }
 
 /// Runs the program on this input.
-pub(crate) fn run_on(
-    rt: &impl Abort,
+pub(crate) fn run_on<R: Abort + Threads + Wait + Sync>(
+    rt: &R,
     alloc: Global,
     setting: Setting<'_>,
     input: Vec<u8>,
-) -> Result<Played<MemorySource, MemorySink, ListClock>, AllocError> {
+) -> Result<RowPlayed, AllocError> {
     assert!(rt; !setting.seconds.is_empty() && setting.seconds.len() <= 64);
     assert!(rt; setting.most > 0 && setting.takes > 0);
     let words = words_of(alloc, setting.words)?;
     let source = MemorySource::new(input, setting.most, setting.failing_pulls.to_vec(alloc)?);
     let sink = MemorySink::new(alloc, setting.takes, setting.failing_pushes.to_vec(alloc)?);
-    let clock = ListClock::new(setting.seconds);
-    Ok(play(alloc, &words, source, sink, clock))
+    let world = World {
+        source,
+        sink,
+        ports: no_ports(alloc),
+        clock: ListClock::new(setting.seconds),
+    };
+    Ok(play(rt, alloc, &words, world))
+}
+
+/// Ports and pollers to which no link comes.
+pub(crate) fn no_ports(alloc: Global) -> MemoryEventPorts<MemoryLink> {
+    MemoryEventPorts::steady(alloc, Vec::new(alloc), Vec::new(alloc))
 }
 
 /// Runs the program on the input for which this text stands, and asks for that output and that status.
-pub(crate) fn expect(
-    rt: &impl Abort,
+pub(crate) fn expect<R: Abort + Threads + Wait + Sync>(
+    rt: &R,
     alloc: Global,
     setting: Setting<'_>,
     input: &str,
@@ -122,14 +143,14 @@ pub(crate) fn expect(
 ) -> Result<(), AllocError> {
     let played = run_on(rt, alloc, setting, bytes_of(alloc, input)?)?;
     let wanted = bytes_of(alloc, output)?;
-    expect_bytes(rt, input, played.sink.bytes(), &wanted);
+    expect_bytes(rt, input, played.world.sink.bytes(), &wanted);
     assert_eq!(rt; played.status, status, "{input}");
     Ok(())
 }
 
 /// Runs the program for each of these rows anew: what is sent, and what is answered. Each session comes to its end.
-pub(crate) fn expect_rows(
-    rt: &impl Abort,
+pub(crate) fn expect_rows<R: Abort + Threads + Wait + Sync>(
+    rt: &R,
     alloc: Global,
     setting: Setting<'_>,
     rows: &[(&str, &str)],
@@ -141,8 +162,8 @@ pub(crate) fn expect_rows(
 }
 
 /// Runs one session in which these commands come one behind another, each with its answers.
-pub(crate) fn converse(
-    rt: &impl Abort,
+pub(crate) fn converse<R: Abort + Threads + Wait + Sync>(
+    rt: &R,
     alloc: Global,
     setting: Setting<'_>,
     commands: &[(&str, &str)],

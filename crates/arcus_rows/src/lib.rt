@@ -31,6 +31,8 @@ mod pushes;
 #[cfg(test)]
 mod rows;
 #[cfg(test)]
+mod servers;
+#[cfg(test)]
 mod sets;
 #[cfg(test)]
 mod turning;

@@ -261,7 +261,7 @@ fn a_list_may_hold_4000_elements(rt: HostRuntime) -> Result<(), Fail> {
         "CREATED|STORED|OVERFLOWED|VALUE 0 1|1 x|END|NOT_FOUND_ELEMENT|",
     )?;
     let played = run_on(&rt, alloc, DEFAULT, input)?;
-    expect_bytes(&rt, "4,001 inserts", played.sink.bytes(), &wanted);
+    expect_bytes(&rt, "4,001 inserts", played.world.sink.bytes(), &wanted);
     assert_eq!(rt; played.status, Status::Done);
     Ok(())
 }

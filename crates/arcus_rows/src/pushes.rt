@@ -67,7 +67,12 @@ fn texts_wait_up_to_16384_bytes(rt: HostRuntime) -> Result<(), Fail> {
         ..DEFAULT
     };
     let played = run_on(&rt, rt.alloc(), one_push, input)?;
-    expect_bytes(&rt, "1,000 times version", played.sink.bytes(), &output);
+    expect_bytes(
+        &rt,
+        "1,000 times version",
+        played.world.sink.bytes(),
+        &output,
+    );
     assert_eq!(rt; played.status, Status::WriteFault);
     Ok(())
 }
@@ -100,7 +105,7 @@ fn long_values_go_out_alone(rt: HostRuntime) -> Result<(), Fail> {
     expect_bytes(
         &rt,
         input,
-        played.sink.bytes(),
+        played.world.sink.bytes(),
         &bytes_of(rt.alloc(), whole)?,
     );
     Ok(())

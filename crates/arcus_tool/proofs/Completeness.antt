@@ -187,6 +187,8 @@ module _ (agree_law : BeginningsAgree) (rest_law : RestBeginsWithNoUnit) (stay_l
   is_complete opening before after status.Done session = λ input told whole short reads writes. inl refl
   is_complete opening before after status.NoMemory session = λ input told whole short reads writes. inr refl
   is_complete opening before after (status.BadWords place) session = absurd session.ends
+  is_complete opening before after (status.BadScript offset) session = absurd session.ends
+  is_complete opening before after status.PortFault session = absurd session.ends
   is_complete opening before after status.ReadFault session = λ input told whole short reads writes. absurd (reads session.ends.fault)
   is_complete opening before after status.WriteFault session = λ input told whole short reads writes. absurd (writes session.ends.fault)
   is_complete opening before after status.LongInput session = λ input told whole short reads writes.

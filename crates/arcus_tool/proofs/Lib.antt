@@ -1,4 +1,4 @@
 pub mod Ending
 pub mod Completeness
 pub mod Opening
-pub mod Asking
+pub mod Running

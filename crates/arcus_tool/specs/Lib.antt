@@ -1,4 +1,3 @@
 pub mod Session
-pub mod Reading
-pub mod Words
-pub mod Asking
+pub mod Statuses
+pub mod Running

@@ -40,8 +40,10 @@ Ends status.LongInput before after taken units tail text = EndsLong before after
 Ends status.LineTooLong before after taken units tail text = EndsAtLongLine before after taken units tail text
 Ends status.WriteFault before after taken units tail text = EndsWriteFault before after taken text
 Ends status.NoMemory before after taken units tail text = EndsWithoutMemory before after taken text
--- a session does not look at words
+-- a session does not look at words, at scripts, at ports
 Ends (status.BadWords place) before after taken units tail text = ⊥
+Ends (status.BadScript offset) before after taken units tail text = ⊥
+Ends status.PortFault before after taken units tail text = ⊥
 
 -- No count rose but the one that the status tells.
 abbrev pub CountsOnly : Status → Outside → Outside → Type 0

@@ -3,15 +3,15 @@
 
 mod edge;
 mod joined;
+mod scripts;
+mod serving;
 mod sessions;
 mod status;
-#[cfg(test)]
-mod tests;
 mod top;
-mod words;
 
 pub use edge::{StdSink, StdSource, WallClock};
+pub use scripts::many;
+pub use serving::serve;
 pub use sessions::session;
 pub use status::Status;
 pub use top::{World, run};
-pub use words::{BadWords, Job, read_words, words_ask_for_a_session};

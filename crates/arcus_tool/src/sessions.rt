@@ -1,16 +1,15 @@
 //! One session, from a source to a sink.
-ghost use Rattle.std.specs.Prelude.{◌≡◌, ◌≢◌, ◌≤◌, List, ℕ};
+ghost use Rattle.std.specs.Prelude.{◌≡◌, ◌≢◌, ◌≤◌, List, ℕ, IfOk};
 ghost use Rattle.arc_core.specs.declared.ends.End.TheVariants as end;
 ghost use Rattle.arc_core.specs.Outside.{incoming, outgoing};
-ghost use Rattle.arc_core.specs.CacheState.{opening_state};
 ghost use Rattle.pipe_session.specs.Outside.{outside};
 ghost use Rattle.pipe_session.specs.Turns.{IsFresh};
 ghost use Rattle.arcus_tool.specs.Session.{IsSession, IsComplete, IsStatusOf};
-ghost use Rattle.arcus_tool.specs.Words.{opening_of};
+ghost use Rattle.arcus_tool.specs.Running.{opening_of};
 
 use crate::joined::{JoinedLink, Joins, Pair};
 use crate::status::Status;
-use arc_core::{Clock, End, Executor, Sink, Source};
+use arc_core::{Clock, End, Executor, NoMemory, Sink, Source};
 use cache_engine::{Cache, Settings};
 use frame_reader::{beginnings_agree, rest_begins_with_no_unit, units_stay};
 use pipe_session::{Direct, Session, Turn, fresh_sessions_have_done_nothing};
@@ -54,36 +53,47 @@ pub fn session<S: Source, K: Sink, C: Clock>(
     beginnings_agree();
     rest_begins_with_no_unit();
     units_stay();
+    match cache_of(alloc, limit, share) {
+        Ok(executor) => run_session(alloc, executor, source, sink, clock),
+        Err(_) => Status::NoMemory,
+    }
+}
+
+// An empty cache of so many mebibytes, of which the sticky items may take such a share.
+pub(crate) fn cache_of(alloc: Global, limit: u32, share: u32) -> Result<Cache, NoMemory>
+    requires at_least { 1 ≤ limit }
+    requires at_most { limit ≤ 4096 }
+    requires percent { share ≤ 100 }
+    ensures { IfOk result (λ cache. ⟦<Cache as Executor>⟧.state cache ≡ opening_of limit share) }
+{
     let Some(settings) = Settings::of_shares(limit, share) else {
         unreachable!();
     };
-    run_session(alloc, settings, source, sink, clock)
+    Cache::new(alloc, settings)
 }
 
 // Takes the memory of a session, and runs it.
-fn run_session<S: Source, K: Sink, C: Clock>(
+fn run_session<S: Source, K: Sink, C: Clock, E: Executor + Drop>(
     alloc: Global,
-    settings: Settings,
+    executor: E,
     source: &mut S,
     sink: &mut K,
     clock: &mut C,
 ) -> Status
-    ensures { IsSession (opening_state settings.limit settings.share)
+    ensures { IsSession (E.state executor)
         (outside (incoming (S.left source.old) (S.read_faults source.old))
         (outgoing (K.sent sink.old) (K.write_faults sink.old) (K.refusals sink.old)) (C.coming clock.old))
         (outside (incoming (S.left source.new) (S.read_faults source.new))
         (outgoing (K.sent sink.new) (K.write_faults sink.new) (K.refusals sink.new)) (C.coming clock.new))
         result }
 {
-    let Ok(executor) = Cache::new(alloc, settings) else {
-        return Status::NoMemory;
-    };
     let Ok(mut session) = Session::new(alloc) else {
+        executor.keeps_the_rules();
         return Status::NoMemory;
     };
     let mut desk = Direct { executor };
     let pair = Pair { source, sink };
-    let (_, status) = serve_pair::<S, K, C, Cache, Brand>(pair, clock, &mut desk, &mut session);
+    let (_, status) = serve_pair::<S, K, C, E, Brand>(pair, clock, &mut desk, &mut session);
     status
 }
 

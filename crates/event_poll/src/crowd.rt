@@ -4,7 +4,13 @@ use std::alloc::{AllocError, Global};
 use std::sync::Arc;
 use std::sync::atomic::{AtomicU64, Ordering};
 
-/// The counts of all workers, and the place of one.
+/// The most workers whose connections are counted.
+pub(crate) const MOST_WORKERS: usize = 4096;
+
+/// The count of a place that no worker has.
+const NOBODY: u64 = u64::MAX;
+
+/// The counts of all workers, and the place of one. Places are given from the first on.
 #[derive(Drop)]
 pub(crate) struct Crowd {
     counts: Arc<Vec<AtomicU64>>,
@@ -12,42 +18,44 @@ pub(crate) struct Crowd {
 }
 
 impl Crowd {
-    /// The counts of so many workers, for the first of them.
-    pub(crate) fn new(alloc: Global, workers: usize) -> Result<Crowd, AllocError> {
-        let mut counts = Vec::new(alloc);
-        for _ in 0..workers {
-            counts.push(AtomicU64::new(0))?;
+    /// The counts of workers that are still to come, none of which has a place.
+    pub(crate) fn new(alloc: Global) -> Result<Crowd, AllocError> {
+        let mut counts = Vec::with_capacity(alloc, MOST_WORKERS)?;
+        for _ in 0..MOST_WORKERS {
+            counts.push(AtomicU64::new(NOBODY))?;
         }
         Ok(Crowd {
             counts: Arc::new(alloc, counts)?,
-            place: 0,
+            place: MOST_WORKERS,
         })
     }
 
-    /// The same counts, for the worker with this place.
+    /// The same counts, for one more worker, at this place: the next one. It has no connection yet. Beyond 4,096 workers its
+    /// connections are not counted.
     pub(crate) fn of(&self, place: usize) -> Result<Crowd, AllocError> {
-        Ok(Crowd {
-            counts: Arc::try_clone(&self.counts)?,
-            place,
-        })
+        let counts = Arc::try_clone(&self.counts)?;
+        if let Some(count) = self.counts.get(place) {
+            count.store(0, Ordering::SeqCst);
+        }
+        Ok(Crowd { counts, place })
     }
 
     /// Whether no other worker has fewer connections.
     pub(crate) fn is_least(&self) -> bool {
-        let mine = self.count();
+        let Some(own) = self.counts.get(self.place) else {
+            return true;
+        };
+        let mine = own.load(Ordering::SeqCst);
         for count in self.counts.iter() {
-            if count.load(Ordering::SeqCst) < mine {
+            let theirs = count.load(Ordering::SeqCst);
+            if theirs == NOBODY {
+                return true;
+            }
+            if theirs < mine {
                 return false;
             }
         }
         true
-    }
-
-    fn count(&self) -> u64 {
-        match self.counts.get(self.place) {
-            Some(count) => count.load(Ordering::SeqCst),
-            None => 0,
-        }
     }
 
     /// This worker has one connection more.

@@ -7,8 +7,11 @@ use arc_core::{Link, Pull, Push};
 use mio::net::TcpStream;
 use std::io::{ErrorKind, Read, Write};
 
-/// So many pulls that brought bytes are answered one after another. Then the others get their turn.
-const MOST_PULLS: u32 = 16;
+/// So many pulls that brought bytes are answered one after another, and so many pushes that took some. Then the others get
+/// their turn.
+const MOST_PULLS: u32 = 1;
+
+const MOST_PUSHES: u32 = 16;
 
 /// How often a call that a signal interrupted is made again.
 const MOST_REPEATS: u32 = 1000;
@@ -17,7 +20,8 @@ const MOST_REPEATS: u32 = 1000;
 /// content.
 ///
 /// A pull that did not fill its buffer has taken all that was there, so the next one answers `Again` without asking the
-/// system. A connection that always has input answers `Again` after 16 pulls, and is then ready at once.
+/// system. A connection that always has input, or whose peer reads as fast as it is answered, answers `Again` after a pull or
+/// 16 pushes, and is then ready at once.
 #[derive(Drop)]
 pub struct EventLink {
     pub(crate) stream: TcpStream,
@@ -25,7 +29,9 @@ pub struct EventLink {
     drained: bool,
     // How many pulls brought bytes since it last had to be asked again.
     pulls: u32,
-    // It answered `Again` while there may be input.
+    // How many pushes took some.
+    pushes: u32,
+    // It answered `Again` while there may be input, or room.
     pub(crate) goes_on: bool,
     pub(crate) is_watched: bool,
     read_faults: u64,
@@ -40,6 +46,7 @@ impl EventLink {
             stream,
             drained: false,
             pulls: 0,
+            pushes: 0,
             goes_on: false,
             is_watched: false,
             read_faults: 0,
@@ -56,6 +63,7 @@ impl EventLink {
     {
         self.drained = false;
         self.pulls = 0;
+        self.pushes = 0;
         self.agains = self.agains.saturating_add(1);
     }
 }
@@ -98,8 +106,16 @@ impl Link for EventLink {
     }
 
     fn push(&mut self, piece: &[u8]) -> Push {
+        if self.pushes >= MOST_PUSHES {
+            self.goes_on = true;
+            self.count_again();
+            return Push::Again;
+        }
         match write(&mut self.stream, piece) {
-            Moved::Some(count) => Push::Took(count),
+            Moved::Some(count) => {
+                self.pushes += 1;
+                Push::Took(count)
+            }
             Moved::Later => {
                 self.count_again();
                 Push::Again

@@ -1,9 +1,11 @@
 //! Where the connections of event workers come from.
+ghost use Rattle.std.specs.Prelude.{◌≡◌, IfOk};
 
-use crate::crowd::Crowd;
+use crate::crowd::{Crowd, MOST_WORKERS};
 use crate::poller::{EventPoller, MOST_EVENTS};
+use full_table::Notice;
 use mio::{Events, Poll};
-use std::alloc::Global;
+use std::alloc::{AllocError, Global};
 use std::io;
 use std::net::{IpAddr, Ipv4Addr, Net, SocketAddr, TcpListener};
 
@@ -11,26 +13,36 @@ use std::net::{IpAddr, Ipv4Addr, Net, SocketAddr, TcpListener};
 #[derive(Drop)]
 pub struct EventListener {
     listener: TcpListener,
-    crowd: Crowd,
-    workers: usize,
+    // What all workers share. The first one takes the memory for it.
+    shared: Option<Shared>,
     next: usize,
 }
 
+// How many connections each worker has, and the notice that connections wait.
+#[derive(Drop)]
+struct Shared {
+    crowd: Crowd,
+    notice: Notice,
+}
+
+impl Shared {
+    fn new(alloc: Global) -> Result<Shared, AllocError> {
+        Ok(Shared {
+            crowd: Crowd::new(alloc)?,
+            notice: Notice::new(alloc)?,
+        })
+    }
+}
+
 impl EventListener {
-    /// Binds 127.0.0.1 with this port, for so many workers. An error is the system's, or want of memory. (No clause can say what
-    /// the system gives, here and below.)
-    pub fn bind<R: Net>(
-        net: &R,
-        alloc: Global,
-        port: u16,
-        workers: usize,
-    ) -> io::Result<EventListener> {
+    /// Binds 127.0.0.1 with this port. An error is the system's. Takes no memory. (No clause can say what the system gives, here
+    /// and below.)
+    pub fn bind<R: Net>(net: &R, port: u16) -> io::Result<EventListener> {
         let addr = SocketAddr::new(IpAddr::V4(Ipv4Addr::LOCALHOST), port);
         let listener = TcpListener::from(mio::net::TcpListener::bind(net, addr)?);
         Ok(EventListener {
             listener,
-            crowd: Crowd::new(alloc, workers)?,
-            workers,
+            shared: None,
             next: 0,
         })
     }
@@ -40,17 +52,29 @@ impl EventListener {
         Ok(self.listener.local_addr()?.port())
     }
 
-    /// The poller of a further worker. Beyond the number of workers its connections are not counted. An error is the system's, or
-    /// want of memory.
-    pub fn poller<R: Net>(&mut self, net: &R, alloc: Global) -> io::Result<EventPoller> {
+    /// The poller of a further worker, which has not failed yet. Beyond 4,096 workers its connections are not counted. An error
+    /// is the system's, or want of memory; where it is `OutOfMemory`, memory was refused.
+    pub fn poller<R: Net + Copy>(&mut self, rt: R, alloc: Global) -> io::Result<EventPoller<R>>
+        ensures { IfOk result (λ poller. (poller.faults ≡ 0) × (poller.held ≡ 0)) }
+    {
+        let shared = match self.shared.take() {
+            Some(shared) => shared,
+            None => Shared::new(alloc)?,
+        };
         let place = self.next;
-        self.next = self.next.saturating_add(1).min(self.workers);
+        let crowd = shared.crowd.of(place);
+        let notice = shared.notice.share();
+        self.shared = Some(shared);
+        self.next = place.saturating_add(1).min(MOST_WORKERS);
         let listener = mio::net::TcpListener::from_std(self.listener.try_clone()?);
+        let poll = Poll::new(&rt)?;
         EventPoller::new(
-            Poll::new(net)?,
+            rt,
+            poll,
             Events::with_capacity(alloc, MOST_EVENTS)?,
             listener,
-            self.crowd.of(place)?,
+            crowd?,
+            notice?,
             Vec::with_capacity(alloc, MOST_EVENTS * 2)?,
         )
     }

@@ -1,10 +1,11 @@
 //! What tells an event worker which of its connections are ready, and which have come.
-ghost use Rattle.std.specs.Prelude.{◌≡◌, None};
+ghost use Rattle.std.specs.Prelude.{◌≡◌, ◌==◌, not, None, IfOk};
 
 use crate::crowd::Crowd;
 use crate::link::EventLink;
 use arc_core::{End, Failed};
 use event_port::{Poller, Wake};
+use full_table::{Notice, is_full};
 use mio::net::{TcpListener, TcpStream};
 use mio::{Events, Interest, Poll, Token};
 use std::io;
@@ -20,42 +21,50 @@ const LISTENER: usize = usize::MAX;
 /// The connections of one event worker on a listener that several share, over one epoll set. It tells no links.
 ///
 /// A connection that comes is taken by the worker that has the fewest. Where that one does not take it within a
-/// millisecond another does. Where the table of descriptors is full, connections wait until one of this worker's ends, or
-/// a tenth of a second.
+/// millisecond another does. Where an accept fails, as where the table of descriptors is full, connections wait until one of
+/// this worker's ends, or a tenth of a second; that there is no room for one is said once on standard error.
 #[derive(Drop)]
-pub struct EventPoller {
+pub struct EventPoller<R> {
+    rt: R,
     poll: Poll,
     events: Events,
     listener: TcpListener,
     crowd: Crowd,
+    notice: Notice,
     // Tokens that were told to be ready, and are to be handed on.
     ready: Vec<usize>,
     // Connections may be waiting.
     accepting: bool,
     // One was left to another worker at the last wait.
     declined: bool,
-    // The table of descriptors was full.
+    // The last accept failed.
     is_full: bool,
     held: u64,
     faults: u64,
 }
 
-impl EventPoller {
-    /// A poller of the connections on this listener. `ready` has room for two tokens an event.
+impl<R: Copy> EventPoller<R> {
+    /// A poller of the connections on this listener, which has not failed yet. `ready` has room for two tokens an event.
     pub(crate) fn new(
+        rt: R,
         poll: Poll,
         events: Events,
         mut listener: TcpListener,
         crowd: Crowd,
+        notice: Notice,
         ready: Vec<usize>,
-    ) -> io::Result<EventPoller> {
+    ) -> io::Result<EventPoller<R>>
+        ensures { IfOk result (λ poller. (poller.faults ≡ 0) × (poller.held ≡ 0)) }
+    {
         poll.registry()
             .register(&mut listener, Token(LISTENER), Interest::READABLE)?;
         Ok(EventPoller {
+            rt,
             poll,
             events,
             listener,
             crowd,
+            notice,
             ready,
             accepting: true,
             declined: false,
@@ -65,28 +74,11 @@ impl EventPoller {
         })
     }
 
-    // The next connection, where this worker is to take one.
-    fn accept(&mut self) -> Option<EventLink>
-        ensures faults { self.new.faults ≡ self.old.faults }
-        ensures held { self.new.held ≡ self.old.held }
+    /// Whether a call of `wait` or `watch` has failed.
+    pub fn has_failed(&self) -> bool
+        ensures { result ≡ not (self.now.faults == 0) }
     {
-        if !self.declined && !self.crowd.is_least() {
-            self.declined = true;
-            return None;
-        }
-        self.declined = false;
-        match accept(&self.listener) {
-            Accepted::Some(stream) => Some(EventLink::new(stream)),
-            Accepted::Nothing => {
-                self.accepting = false;
-                None
-            }
-            Accepted::Full => {
-                self.is_full = true;
-                None
-            }
-            Accepted::Gone => None,
-        }
+        self.faults != 0
     }
 
     // How long a wait may take: until something is ready, or until a connection is looked for again.
@@ -122,6 +114,35 @@ impl EventPoller {
     }
 }
 
+impl<R: Eprint + Copy> EventPoller<R> {
+    // The next connection, where this worker is to take one.
+    fn accept(&mut self) -> Option<EventLink>
+        ensures faults { self.new.faults ≡ self.old.faults }
+        ensures held { self.new.held ≡ self.old.held }
+    {
+        if !self.declined && !self.crowd.is_least() {
+            self.declined = true;
+            return None;
+        }
+        self.declined = false;
+        match accept(&self.listener) {
+            Accepted::Some(stream) => Some(EventLink::new(stream)),
+            Accepted::Nothing => {
+                self.accepting = false;
+                None
+            }
+            Accepted::Failed(error) => {
+                self.is_full = true;
+                if is_full(&error) {
+                    self.notice.give(&self.rt, &error);
+                }
+                None
+            }
+            Accepted::Gone => None,
+        }
+    }
+}
+
 // Notes that a link may be ready; twice where the other side sends no more, since its end may come behind its last bytes.
 fn note(ready: &mut Vec<usize>, token: usize, is_closed: bool) {
     let _ = ready.push(token);
@@ -136,8 +157,8 @@ enum Accepted {
     Some(TcpStream),
     // No connection waits.
     Nothing,
-    // There is no descriptor for it.
-    Full,
+    // There is no room for it, or the system refuses it otherwise.
+    Failed(io::Error),
     // The connection has gone.
     Gone,
 }
@@ -154,12 +175,12 @@ fn accept(listener: &TcpListener) -> Accepted {
             ErrorKind::ConnectionAborted | ErrorKind::ConnectionReset | ErrorKind::Interrupted => {
                 Accepted::Gone
             }
-            _ => Accepted::Full,
+            _ => Accepted::Failed(error),
         },
     }
 }
 
-impl Poller for EventPoller {
+impl<R: Eprint + Copy> Poller for EventPoller<R> {
     type Link = EventLink;
 
     ghost links = { λ _. None };

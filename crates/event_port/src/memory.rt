@@ -1,5 +1,5 @@
 //! Pollers over memory, which tell all that they hold: for tests.
-ghost use Rattle.std.specs.Prelude.{◌≡◌, ◌+◌, ◌≤◌, [], Some, vec_len, vec_capacity};
+ghost use Rattle.std.specs.Prelude.{◌≡◌, ◌+◌, ◌≤◌, ◌==◌, not, [], Some, vec_len, vec_capacity};
 ghost use Rattle.worker_server.specs.Ports.{port_state};
 ghost use Rattle.event_port.specs.Pollers.{poller_state, Wakes};
 
@@ -59,6 +59,13 @@ impl<L: Link + Drop> MemoryPoller<L> {
         ensures { ⟦<MemoryPoller<L> as Poller>⟧.returned self.now ≡ Some result.now }
     {
         &self.returned
+    }
+
+    /// Whether a call of `wait` or `watch` has failed.
+    pub fn has_failed(&self) -> bool
+        ensures { result ≡ not (⟦<MemoryPoller<L> as Poller>⟧.faults self.now == 0) }
+    {
+        self.faults != 0
     }
 
     // The next link, with room for one more that comes back.

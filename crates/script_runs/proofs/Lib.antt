@@ -1,3 +1,11 @@
 mod Gathering
 mod Scripts
 mod Sending
+mod Places
+mod Outcomes
+mod Histories
+mod Lengths
+mod Endings
+mod Writings
+mod Hirings
+mod Served

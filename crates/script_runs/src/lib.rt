@@ -1,15 +1,17 @@
 //! Scripts of sessions: what is read of them, and what is written of the sessions that they hold.
 //!
-//! `input` reads a source to its end, `script` reads a script's sessions, `output` writes what came of one, and `run` has the
-//! ways in which a run of a script ends. The run itself is stated in `specs/Runs.antt`, and has no code yet.
+//! `run` is the whole of it, from a source to a sink: `input` reads the source to its end, `script` reads the sessions,
+//! `dealing` deals them to workers, `serving` serves them and writes what came of them, each by `output`.
 #![tactic(auto)]
 
+mod dealing;
 mod input;
 mod output;
 mod run;
 mod script;
+mod serving;
 
 pub use input::{Input, read_whole};
 pub use output::write_outcome;
-pub use run::RunEnd;
+pub use run::{RunEnd, run_script};
 pub use script::{ScriptFault, plain_number, read_script};

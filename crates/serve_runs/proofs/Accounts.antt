@@ -1,11 +1,12 @@
 -- What becomes of the counts of faults while ports are out.
-use Rattle.std.proofs.Common.{◌≡◌, ◌∙◌, ◌⊎◌, inl, inr, Bool, true, false, ◌||◌, ℕ, ◌+◌, ◌<◌, ◌≤◌, List, [], ◌∷◌, length, map, Option, refl, sym, ap, arith}
+use Rattle.std.proofs.Common.{◌≡◌, ◌∙◌, ◌⊎◌, inl, inr, Bool, true, false, ◌||◌, ℕ, ◌+◌, ◌<◌, ◌≤◌, List, [], ◌∷◌, length, map, refl, sym, ap, arith}
 use Rattle.std.specs.List.{AllByRecursion}
 use Rattle.std.proofs.lemmas.Bool.{true≢false}
 use Rattle.arc_core.specs.CacheState.{CacheState}
 use Rattle.arc_core.specs.History.{Entry}
-use Rattle.arc_core.specs.Outside.{Rose, Linked}
+use Rattle.arc_core.specs.Outside.{Rose}
 use Rattle.atomic_table.specs.Seated.{TableId}
+use Rattle.turn_lock.specs.Seats.{SeatView}
 use Rattle.worker_ports.specs.Hands.{PortsState, TakesPort}
 use Rattle.worker_server.specs.declared.worker.WorkerEnd.{WorkerEnd}
 use Rattle.worker_server.specs.declared.worker.WorkerEnd.TheVariants as worker_end
@@ -98,48 +99,55 @@ or_some : (a b : Bool) → (a || b) ≡ true → (a ≡ true) ⊎ (b ≡ true)
 or_some true b some = inl refl
 or_some false b some = inr some
 
-module _ {L P C : Type 0} (look : L → Linked) (tell : P → PortState L) (coming : C → Option (List ℕ)) where
+-- What a worker's run says of its end and of its port's counts, of whatever kind it is.
+abbrev pub EndsRightly : {L P C : Type 0} → (Ran : Hired P C → SeatView → Member P → SeatView → Type 0) → (tell : P → PortState L) → Type 0
+EndsRightly {P = P} {C = C} Ran tell =
+    (worker : Hired P C) (before : SeatView) (member : Member P) (after : SeatView) → Ran worker before member after
+    → (served : ℕ) × EndsFor member.end served worker.sessions (tell worker.port) (tell member.port)
+
+module _ {P C : Type 0} (Ran : Hired P C → SeatView → Member P → SeatView → Type 0) where
   -- as many are left as there were
   pub as_many_left : (lock : TableId) (opening : CacheState) (history : List Entry) (number : ℕ) (workers : List (Hired P C)) (members : List (Member P))
-      → AllHaveWorked look tell coming lock opening history number workers members → length members ≡ length workers
+      → AllHaveWorked Ran lock opening history number workers members → length members ≡ length workers
   as_many_left lock opening history number [] [] worked = refl
   as_many_left lock opening history number [] (m ∷ ms) worked = absurd worked
   as_many_left lock opening history number (w ∷ ws) [] worked = absurd worked
   as_many_left lock opening history number (w ∷ ws) (m ∷ ms) (one, worked) = omega (arith, as_many_left lock opening history (number + 1) ws ms worked)
 
+module _ {L P C : Type 0} (Ran : Hired P C → SeatView → Member P → SeatView → Type 0) (tell : P → PortState L) where
   -- no port has failed
-  pub all_fine : (lock : TableId) (opening : CacheState) (history : List Entry) (number : ℕ) (workers : List (Hired P C)) (members : List (Member P))
-      → AllHaveWorked look tell coming lock opening history number workers members → AllByRecursion (IsFine tell) (map (λ w. w.port) workers) → any_failed members ≡ false
+  pub all_fine : (ends : EndsRightly Ran tell) (lock : TableId) (opening : CacheState) (history : List Entry) (number : ℕ) (workers : List (Hired P C)) (members : List (Member P))
+      → AllHaveWorked Ran lock opening history number workers members → AllByRecursion (IsFine tell) (map (λ w. w.port) workers) → any_failed members ≡ false
       → AllByRecursion (IsFine tell) (map (λ m. m.port) members)
-  all_fine lock opening history number [] [] worked fine none = tt
-  all_fine lock opening history number [] (m ∷ ms) worked fine none = absurd worked
-  all_fine lock opening history number (w ∷ ws) [] worked fine none = absurd worked
-  all_fine lock opening history number (w ∷ ws) (m ∷ ms) (one, worked) (first, fine) none =
+  all_fine ends lock opening history number [] [] worked fine none = tt
+  all_fine ends lock opening history number [] (m ∷ ms) worked fine none = absurd worked
+  all_fine ends lock opening history number (w ∷ ws) [] worked fine none = absurd worked
+  all_fine ends lock opening history number (w ∷ ws) (m ∷ ms) (one, worked) (first, fine) none =
       let apart = or_none (has_failed m.end) (any_failed ms) none in
-      (fine_by m.end _ w.sessions (tell w.port) (tell m.port) first apart.0 one.ran.ends, all_fine lock opening history (number + 1) ws ms worked fine apart.1)
+      (fine_by m.end _ w.sessions (tell w.port) (tell m.port) first apart.0 (ends w _ m one.seat one.ran).1, all_fine ends lock opening history (number + 1) ws ms worked fine apart.1)
 
   -- each worker ended well
-  pub all_well : (lock : TableId) (opening : CacheState) (history : List Entry) (number : ℕ) (workers : List (Hired P C)) (members : List (Member P))
-      → AllHaveWorked look tell coming lock opening history number workers members → any_failed members ≡ false → any_refused members ≡ false → AllByRecursion EndedWell members
-  all_well lock opening history number [] [] worked none given = tt
-  all_well lock opening history number [] (m ∷ ms) worked none given = absurd worked
-  all_well lock opening history number (w ∷ ws) [] worked none given = absurd worked
-  all_well lock opening history number (w ∷ ws) (m ∷ ms) (one, worked) none given =
+  pub all_well : (ends : EndsRightly Ran tell) (lock : TableId) (opening : CacheState) (history : List Entry) (number : ℕ) (workers : List (Hired P C)) (members : List (Member P))
+      → AllHaveWorked Ran lock opening history number workers members → any_failed members ≡ false → any_refused members ≡ false → AllByRecursion EndedWell members
+  all_well ends lock opening history number [] [] worked none given = tt
+  all_well ends lock opening history number [] (m ∷ ms) worked none given = absurd worked
+  all_well ends lock opening history number (w ∷ ws) [] worked none given = absurd worked
+  all_well ends lock opening history number (w ∷ ws) (m ∷ ms) (one, worked) none given =
       let apart = or_none (has_failed m.end) (any_failed ms) none in
       let other = or_none (was_refused m.end) (any_refused ms) given in
-      (well_by m.end _ w.sessions (tell w.port) (tell m.port) apart.0 other.0 one.ran.ends, all_well lock opening history (number + 1) ws ms worked apart.1 other.1)
+      (well_by m.end _ w.sessions (tell w.port) (tell m.port) apart.0 other.0 (ends w _ m one.seat one.ran).1, all_well ends lock opening history (number + 1) ws ms worked apart.1 other.1)
 
   -- a port that has failed is counted when it comes back
-  pub some_failed : (lock : TableId) (opening : CacheState) (history : List Entry) (number : ℕ) (workers : List (Hired P C)) (members : List (Member P)) (before after : PortsState P)
-      → AllHaveWorked look tell coming lock opening history number workers members → AllByRecursion (IsFine tell) (map (λ w. w.port) workers) → any_failed members ≡ true
+  pub some_failed : (ends : EndsRightly Ran tell) (lock : TableId) (opening : CacheState) (history : List Entry) (number : ℕ) (workers : List (Hired P C)) (members : List (Member P)) (before after : PortsState P)
+      → AllHaveWorked Ran lock opening history number workers members → AllByRecursion (IsFine tell) (map (λ w. w.port) workers) → any_failed members ≡ true
       → TakesThrough tell before (map (λ m. m.port) members) after → Rose before.faults after.faults
-  some_failed lock opening history number [] [] before after worked fine some through = absurd (true≢false (sym some))
-  some_failed lock opening history number [] (m ∷ ms) before after worked fine some through = absurd worked
-  some_failed lock opening history number (w ∷ ws) [] before after worked fine some through = absurd worked
-  some_failed lock opening history number (w ∷ ws) (m ∷ ms) before after (one, worked) (first, fine) some (middle, takes, through) =
-      by (λ there. some_failed lock opening history (number + 1) ws ms middle after worked fine there through) (or_some (has_failed m.end) (any_failed ms) some)
+  some_failed ends lock opening history number [] [] before after worked fine some through = absurd (true≢false (sym some))
+  some_failed ends lock opening history number [] (m ∷ ms) before after worked fine some through = absurd worked
+  some_failed ends lock opening history number (w ∷ ws) [] before after worked fine some through = absurd worked
+  some_failed ends lock opening history number (w ∷ ws) (m ∷ ms) before after (one, worked) (first, fine) some (middle, takes, through) =
+      by (λ there. some_failed ends lock opening history (number + 1) ws ms middle after worked fine there through) (or_some (has_failed m.end) (any_failed ms) some)
     where
       by : (any_failed ms ≡ true → Rose middle.faults after.faults) → (has_failed m.end ≡ true) ⊎ (any_failed ms ≡ true) → Rose before.faults after.faults
-      by rest (inl here) = rose_then before.faults middle.faults after.faults (takes_failed tell before middle m.port (failed_by m.end _ w.sessions (tell w.port) (tell m.port) first here one.ran.ends) takes)
+      by rest (inl here) = rose_then before.faults middle.faults after.faults (takes_failed tell before middle m.port (failed_by m.end _ w.sessions (tell w.port) (tell m.port) first here (ends w _ m one.seat one.ran).1) takes)
           (takes_up tell middle after (map (λ m. m.port) ms) through)
       by rest (inr there) = then_rose before.faults middle.faults after.faults (takes_more tell before middle m.port takes) (rest there)

@@ -1,9 +1,10 @@
 -- How a run of a server ends.
-use Rattle.std.proofs.Common.{◌≡◌, ◌∙◌, inl, inr, false, ℕ, ◌+◌, ◌<◌, ◌≤◌, List, [], ◌∷◌, ◌++◌, length, map, Option, refl, sym, ap, subst, arith}
+use Rattle.std.proofs.Common.{◌≡◌, ◌∙◌, ◌⊎◌, inl, inr, false, ℕ, ◌+◌, ◌<◌, ◌≤◌, List, [], ◌∷◌, ◌++◌, length, map, Option, refl, sym, ap, subst, arith}
 use Rattle.std.proofs.lemmas.List.{length-append}
 use Rattle.arc_core.specs.CacheState.{CacheState}
-use Rattle.arc_core.specs.Outside.{Rose, Linked, Outgoing}
-use Rattle.worker_ports.specs.Hands.{PortsState}
+use Rattle.arc_core.specs.Outside.{Rose, Outgoing}
+use Rattle.turn_lock.specs.Seats.{SeatView}
+use Rattle.worker_ports.specs.Hands.{PortsState, RefusedOnce}
 use Rattle.worker_server.specs.Ports.{PortState}
 use Rattle.worker_team.specs.declared.team.Member.{Member}
 use Rattle.worker_team.specs.Team.{Hired}
@@ -11,11 +12,11 @@ use Rattle.serve_runs.specs.declared.hiring.Stop.{Stop}
 use Rattle.serve_runs.specs.declared.hiring.Stop.TheVariants as stop
 use Rattle.serve_runs.specs.declared.serve.ServeEnd.{ServeEnd}
 use Rattle.serve_runs.specs.declared.serve.ServeEnd.TheVariants as serve_end
-use Rattle.serve_runs.specs.Serving.{TakesThrough, HaveAllServed, Serves, total_served}
+use Rattle.serve_runs.specs.Serving.{HandsThrough, TakesThrough, Refuses, HaveAllServed, Serves, total_served}
 use Rattle.serve_runs.specs.Hiring.{HasHired, HasStopped}
 use Rattle.serve_runs.specs.Ending.{WritesTotal, EndsStopped, EndsBehind, EndsServed}
 use Rattle.serve_runs.specs.Verdicts.{any_failed, any_refused}
-use Rattle.serve_runs.proofs.Accounts.{hands_counts, takes_keeps, all_fine, all_well, some_failed}
+use Rattle.serve_runs.proofs.Accounts.{EndsRightly, hands_counts, takes_keeps, all_fine, all_well, some_failed}
 
 -- the number of sessions was written, or not
 pub ends_well : {P : Type 0} (members : List (Member P)) (total : ℕ) (before after : Outgoing) (ended : ServeEnd) → any_failed members ≡ false → any_refused members ≡ false → total ≡ total_served members
@@ -53,60 +54,68 @@ module _ {L P C : Type 0} (tell : P → PortState L) where
         takes_counts tell now after (map (λ w. w.port) team) through,
       )
 
-module _ {L P C : Type 0} (look : L → Linked) (tell : P → PortState L) (coming : C → Option (List ℕ)) where
+module _ {L P C : Type 0} (Ran : Hired P C → SeatView → Member P → SeatView → Type 0) (tell : P → PortState L) (coming : C → Option (List ℕ)) where
   -- no worker has run
-  pub serves_stopped : (opening : CacheState) (workers sessions : ℕ) (seconds : Option (List ℕ)) (before now after : PortsState P) (out : Outgoing) (team : List (Hired P C)) (why : Stop P) (ended : ServeEnd)
-      → HasStopped tell before now team why → EndsStopped tell now after (map (λ w. w.port) team) why ended → Serves look tell coming ended opening workers sessions seconds before after out out
-  serves_stopped opening workers sessions seconds before now after out team stop.Failed ended (middle, handed, fails) (through, is) =
-      let ports = map (λ (w : Hired P C). w.port) team in
+  pub serves_refused : (opening : CacheState) (workers sessions : ℕ) (seconds : Option (List ℕ)) (before middle now after : PortsState P) (out : Outgoing) (ports : List P) (ended : ServeEnd)
+      → HandsThrough tell before ports middle → Refuses ended middle now → TakesThrough tell now ports after → Serves Ran tell coming ended opening workers sessions seconds before after out out
+  serves_refused opening workers sessions seconds before middle now after out ports serve_end.PortFault handed fails through =
       let counts = hands_counts tell before middle ports handed in
       let same : after.faults ≡ now.faults = takes_keeps tell now after ports counts.2 through in
-      subst (λ e. Serves look tell coming e opening workers sessions seconds before after out out) (sym is) (record {
+      record {
         fault = subst (λ n. Rose before.faults n) (sym same) (subst (λ n. Rose n now.faults) counts.0 fails.rose);
         cause = inl (record { ports = ports; handed_out = middle; handed = handed; refused_at = now; refused = fails; back = through });
         same_out = refl;
-      })
-  serves_stopped opening workers sessions seconds before now after out team stop.Refused ended (middle, handed, refuses) (through, is) =
-      let ports = map (λ (w : Hired P C). w.port) team in
+      }
+  serves_refused opening workers sessions seconds before middle now after out ports serve_end.NoMemory handed refuses through =
       let counts = hands_counts tell before middle ports handed in
       let same : after.faults ≡ now.faults = takes_keeps tell now after ports counts.2 through in
-      subst (λ e. Serves look tell coming e opening workers sessions seconds before after out out) (sym is) (record {
-        same_faults = same ∙ (ap (λ s. s.faults) refuses.same ∙ counts.0);
+      record {
+        same_faults = same ∙ (no_fault refuses ∙ counts.0);
         same_write_faults = refl;
-        cause = inl (record { ports = ports; handed_out = middle; handed = handed; refused_at = now; refused = inl refuses; back = through }, refl);
-      })
+        cause = inl (record { ports = ports; handed_out = middle; handed = handed; refused_at = now; refused = refuses; back = through }, refl);
+      }
+    where
+      no_fault : RefusedOnce middle now ⊎ (now ≡ middle) → now.faults ≡ middle.faults
+      no_fault (inl once) = ap (λ s. s.faults) once.same
+      no_fault (inr is) = ap (λ s. s.faults) is
+  serves_refused opening workers sessions seconds before middle now after out ports serve_end.Done handed refuses through = absurd refuses
+  serves_refused opening workers sessions seconds before middle now after out ports serve_end.WriteFault handed refuses through = absurd refuses
+
+  pub serves_stopped : (opening : CacheState) (workers sessions : ℕ) (seconds : Option (List ℕ)) (before now after : PortsState P) (out : Outgoing) (team : List (Hired P C)) (why : Stop P) (ended : ServeEnd)
+      → HasStopped tell before now team why → EndsStopped tell now after (map (λ w. w.port) team) why ended → Serves Ran tell coming ended opening workers sessions seconds before after out out
+  serves_stopped opening workers sessions seconds before now after out team stop.Failed ended (middle, handed, fails) (through, is) =
+      subst (λ e. Serves Ran tell coming e opening workers sessions seconds before after out out) (sym is)
+      (serves_refused opening workers sessions seconds before middle now after out (map (λ w. w.port) team) serve_end.PortFault handed fails through)
+  serves_stopped opening workers sessions seconds before now after out team stop.Refused ended (middle, handed, refuses) (through, is) =
+      subst (λ e. Serves Ran tell coming e opening workers sessions seconds before after out out) (sym is)
+      (serves_refused opening workers sessions seconds before middle now after out (map (λ w. w.port) team) serve_end.NoMemory handed (inl refuses) through)
   serves_stopped opening workers sessions seconds before now after out team (stop.NoWorker port) ended handed (through, is) =
-      let ports = map (λ (w : Hired P C). w.port) team ++ port ∷ [] in
-      let counts = hands_counts tell before now ports handed in
-      subst (λ e. Serves look tell coming e opening workers sessions seconds before after out out) (sym is) (record {
-        same_faults = takes_keeps tell now after ports counts.2 through ∙ counts.0;
-        same_write_faults = refl;
-        cause = inl (record { ports = ports; handed_out = now; handed = handed; refused_at = now; refused = inr refl; back = through }, refl);
-      })
+      subst (λ e. Serves Ran tell coming e opening workers sessions seconds before after out out) (sym is)
+      (serves_refused opening workers sessions seconds before now now after out (map (λ w. w.port) team ++ port ∷ []) serve_end.NoMemory handed (inr refl) through)
 
   -- all workers have run
-  pub serves_well : (opening : CacheState) (workers sessions : ℕ) (seconds : Option (List ℕ)) (before now after : PortsState P) (out out' : Outgoing) (team : List (Hired P C)) (ended : ServeEnd)
-      → HasHired tell coming workers sessions seconds before now team → EndsServed look tell coming opening team now after out out' ended
-      → Serves look tell coming ended opening workers sessions seconds before after out out'
-  serves_well opening workers sessions seconds before now after out out' team ended has served = by ended served.behind
+  pub serves_well : (ends : EndsRightly Ran tell) (opening : CacheState) (workers sessions : ℕ) (seconds : Option (List ℕ)) (before now after : PortsState P) (out out' : Outgoing) (team : List (Hired P C)) (ended : ServeEnd)
+      → HasHired tell coming workers sessions seconds before now team → EndsServed Ran tell opening team now after out out' ended
+      → Serves Ran tell coming ended opening workers sessions seconds before after out out'
+  serves_well ends opening workers sessions seconds before now after out out' team ended has served = by ended served.behind
     where
-      all : HaveAllServed look tell coming opening workers sessions seconds before after served.members
+      all : HaveAllServed Ran tell coming opening workers sessions seconds before after served.members
       all = record { team = team; count = has.count; alike = has.alike; handed_out = now; handed = has.handed; closing = served.closing; run = served.run; back = served.back }
 
       same : any_failed served.members ≡ false → after.faults ≡ before.faults
       same none = takes_keeps tell now after (map (λ m. m.port) served.members)
-          (all_fine look tell coming served.run.lock opening served.run.history 1 team served.members served.run.each (hands_counts tell before now (map (λ w. w.port) team) has.handed).2 none) served.back
+          (all_fine Ran tell ends served.run.lock opening served.run.history 1 team served.members served.run.each (hands_counts tell before now (map (λ w. w.port) team) has.handed).2 none) served.back
           ∙ (hands_counts tell before now (map (λ w. w.port) team) has.handed).0
 
-      by : (e : ServeEnd) → EndsBehind served.members out out' e → Serves look tell coming e opening workers sessions seconds before after out out'
+      by : (e : ServeEnd) → EndsBehind served.members out out' e → Serves Ran tell coming e opening workers sessions seconds before after out out'
       by serve_end.Done (none, given, written) =
-          record { members = served.members; served = all; well = all_well look tell coming served.run.lock opening served.run.history 1 team served.members served.run.each none given; same_faults = same none; written = written }
+          record { members = served.members; served = all; well = all_well Ran tell ends served.run.lock opening served.run.history 1 team served.members served.run.each none given; same_faults = same none; written = written }
       by serve_end.WriteFault (none, given, fails) =
-          record { members = served.members; served = all; well = all_well look tell coming served.run.lock opening served.run.history 1 team served.members served.run.each none given; same_faults = same none; fault = fails.fault; front = fails.sent }
+          record { members = served.members; served = all; well = all_well Ran tell ends served.run.lock opening served.run.history 1 team served.members served.run.each none given; same_faults = same none; fault = fails.fault; front = fails.sent }
       by serve_end.PortFault (some, kept) =
           record {
             fault = subst (λ n. Rose n after.faults) (hands_counts tell before now (map (λ w. w.port) team) has.handed).0
-                (some_failed look tell coming served.run.lock opening served.run.history 1 team served.members now after served.run.each (hands_counts tell before now (map (λ w. w.port) team) has.handed).2 some served.back);
+                (some_failed Ran tell ends served.run.lock opening served.run.history 1 team served.members now after served.run.each (hands_counts tell before now (map (λ w. w.port) team) has.handed).2 some served.back);
             cause = inr (served.members, all);
             same_out = kept;
           }
@@ -116,5 +125,5 @@ module _ {L P C : Type 0} (look : L → Linked) (tell : P → PortState L) (comi
           record {
             same_faults = same none;
             same_write_faults = refuses.same_faults;
-            cause = inr (served.members, all, inr (all_well look tell coming served.run.lock opening served.run.history 1 team served.members served.run.each none given, refuses.sent));
+            cause = inr (served.members, all, inr (all_well Ran tell ends served.run.lock opening served.run.history 1 team served.members served.run.each none given, refuses.sent));
           }

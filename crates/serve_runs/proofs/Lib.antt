@@ -1,3 +1,4 @@
-mod Handing
-mod Accounts
-mod Ending
+pub mod Handing
+pub mod Accounts
+pub mod Ending
+mod Ports

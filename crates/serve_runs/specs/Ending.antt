@@ -1,7 +1,7 @@
--- How a run of a server ends, for the functions within: no public clause cites what stands here.
-use Rattle.std.specs.Prelude.{◌≡◌, ◌⊎◌, ℕ, true, false, List, [], ◌∷◌, ◌++◌, map, Option}
+-- How a run of a server ends, for the functions that it consists of.
+use Rattle.std.specs.Prelude.{◌≡◌, ◌⊎◌, ℕ, true, false, List, [], ◌∷◌, ◌++◌, map}
 use Rattle.arc_core.specs.CacheState.{CacheState}
-use Rattle.arc_core.specs.Outside.{Outgoing, Linked, sent_more}
+use Rattle.arc_core.specs.Outside.{Outgoing, sent_more}
 use Rattle.sink_writes.specs.Writing.{FailedIn, RefusedIn}
 use Rattle.serve_runs.specs.Serving.{TakesThrough, total_served, sessions_line}
 use Rattle.serve_runs.specs.Verdicts.{any_failed, any_refused}
@@ -9,6 +9,7 @@ use Rattle.serve_runs.specs.declared.hiring.Stop.{Stop}
 use Rattle.serve_runs.specs.declared.hiring.Stop.TheVariants as stop
 use Rattle.serve_runs.specs.declared.serve.ServeEnd.{ServeEnd}
 use Rattle.serve_runs.specs.declared.serve.ServeEnd.TheVariants as serve_end
+use Rattle.turn_lock.specs.Seats.{SeatView}
 use Rattle.worker_ports.specs.Hands.{PortsState}
 use Rattle.worker_server.specs.Ports.{PortState}
 use Rattle.worker_team.specs.declared.team.Member.{Member}
@@ -39,10 +40,10 @@ EndsBehind members before after serve_end.WriteFault =
     (any_failed members ≡ false) × (any_refused members ≡ false) × FailedIn before (sessions_line (total_served members)) after
 
 -- The workers have run, and their ports were taken back.
-pub record EndsServed {L P C : Type 0} (look : L → Linked) (tell : P → PortState L) (coming : C → Option (List ℕ)) (opening : CacheState) (team : List (Hired P C))
+pub record EndsServed {L P C : Type 0} (Ran : Hired P C → SeatView → Member P → SeatView → Type 0) (tell : P → PortState L) (opening : CacheState) (team : List (Hired P C))
     (before after : PortsState P) (out out' : Outgoing) (ended : ServeEnd) : Type 0 where
   pub members : List (Member P)
   pub closing : CacheState
-  pub run : TeamHasWorked look tell coming opening team closing members
+  pub run : TeamHasWorked Ran opening team closing members
   pub back : TakesThrough tell before (map (λ m. m.port) members) after
   pub behind : EndsBehind members out out' ended

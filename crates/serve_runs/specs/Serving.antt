@@ -3,10 +3,11 @@
 use Rattle.std.specs.Prelude.{◌≡◌, ◌⊎◌, ℕ, ◌+◌, List, [], ◌∷◌, ◌++◌, length, map, codes, decimal, Option}
 use Rattle.std.specs.List.{AllByRecursion}
 use Rattle.arc_core.specs.CacheState.{CacheState}
-use Rattle.arc_core.specs.Outside.{Rose, Linked, Outgoing, sent_more}
+use Rattle.arc_core.specs.Outside.{Rose, Outgoing, sent_more}
 use Rattle.pipe_session.specs.Ends.{IsSentInPart}
 use Rattle.serve_runs.specs.declared.serve.ServeEnd.{ServeEnd}
 use Rattle.serve_runs.specs.declared.serve.ServeEnd.TheVariants as serve_end
+use Rattle.turn_lock.specs.Seats.{SeatView}
 use Rattle.worker_ports.specs.Hands.{PortsState, HandsOut, TakesPort, FailsOnce, RefusedOnce}
 use Rattle.worker_server.specs.declared.worker.WorkerEnd.TheVariants as worker_end
 use Rattle.worker_server.specs.Ports.{PortState}
@@ -43,7 +44,15 @@ pub record IsHiredFor {P C : Type 0} (coming : C → Option (List ℕ)) (seconds
   pub clock : coming worker.clock ≡ seconds
   pub limit : worker.sessions ≡ sessions
 
-module _ {L P C : Type 0} (look : L → Linked) (tell : P → PortState L) (coming : C → Option (List ℕ)) where
+-- Why no worker ran: a call of the ports failed, or memory was refused to them, and was counted; or memory was refused elsewhere.
+abbrev pub Refuses : {P : Type 0} → ServeEnd → (before after : PortsState P) → Type 0
+Refuses serve_end.PortFault before after = FailsOnce before after
+Refuses serve_end.NoMemory before after = RefusedOnce before after ⊎ (after ≡ before)
+Refuses serve_end.Done before after = ⊥
+Refuses serve_end.WriteFault before after = ⊥
+
+-- What follows is of any kind of workers: `Ran` says that one has run, as in worker_team.
+module _ {L P C : Type 0} (Ran : Hired P C → SeatView → Member P → SeatView → Type 0) (tell : P → PortState L) (coming : C → Option (List ℕ)) where
   -- ALL WORKERS HAVE RUN, each with a port of its own, over one cache: there is one history. Each port was taken back.
   pub record HaveAllServed (opening : CacheState) (workers sessions : ℕ) (seconds : Option (List ℕ)) (before after : PortsState P) (members : List (Member P)) : Type 0 where
     pub team : List (Hired P C)
@@ -52,15 +61,8 @@ module _ {L P C : Type 0} (look : L → Linked) (tell : P → PortState L) (comi
     pub handed_out : PortsState P
     pub handed : HandsThrough tell before (map (λ w. w.port) team) handed_out
     pub closing : CacheState
-    pub run : TeamHasWorked look tell coming opening team closing members
+    pub run : TeamHasWorked Ran opening team closing members
     pub back : TakesThrough tell handed_out (map (λ m. m.port) members) after
-
-  -- why no worker ran
-  abbrev pub Refuses : ServeEnd → PortsState P → PortsState P → Type 0
-  Refuses serve_end.PortFault before after = FailsOnce before after
-  Refuses serve_end.NoMemory before after = RefusedOnce before after ⊎ (after ≡ before)
-  Refuses serve_end.Done before after = ⊥
-  Refuses serve_end.WriteFault before after = ⊥
 
   -- NO WORKER HAS RUN: these ports were handed out, something was refused, and the ports came back as they were.
   pub record NoneHasServed (ended : ServeEnd) (before after : PortsState P) : Type 0 where

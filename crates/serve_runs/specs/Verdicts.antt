@@ -1,4 +1,4 @@
--- How the workers of a team ended, for the functions within: no public clause cites what stands here.
+-- How the workers of a team ended, all together.
 use Rattle.std.specs.Prelude.{◌≡◌, Bool, true, false, List}
 use Rattle.std.specs.List.{list_any}
 use Rattle.serve_runs.specs.Serving.{total_served}

@@ -4,6 +4,7 @@ ghost use Rattle.std.specs.Thread.{IsSend, IsSync};
 ghost use Rattle.arc_core.specs.Outside.{linked, outgoing};
 ghost use Rattle.worker_ports.specs.Hands.{PortsState, ports_state};
 ghost use Rattle.worker_server.specs.Ports.{port_state};
+ghost use Rattle.worker_team.specs.Team.{HasServedPort};
 ghost use Rattle.serve_runs.specs.Serving.{Serves};
 ghost use Rattle.serve_runs.specs.Ending.{EndsStopped, EndsServed};
 ghost use Rattle.serve_runs.specs.Hiring.{HasStopped};
@@ -69,8 +70,9 @@ where
     Q::Port: Send + Drop,
     <Q::Port as Port>::Link: Send,
     requires { job.workers ≤ 4096 }
-    ensures { Serves
+    ensures { Serves (HasServedPort
         (λ link. linked (Q.Port.Link.left link) (Q.Port.Link.read_faults link) (Q.Port.Link.sent link) (Q.Port.Link.write_faults link) (Q.Port.Link.refusals link) (Q.Port.Link.agains link))
+        (λ port. port_state (Q.Port.links port) (Q.Port.returned port) (Q.Port.faults port) (Q.Port.refusals port)) C.coming)
         (λ port. port_state (Q.Port.links port) (Q.Port.returned port) (Q.Port.faults port) (Q.Port.refusals port))
         C.coming result (E.state executor) job.workers (if job.sessions == 0 then 2 ^ 64 - 1 else job.sessions) (C.coming clock.now)
         (ports_state (Q.waiting ports.old) (Q.taken_back ports.old) (Q.out ports.old) (Q.faults ports.old) (Q.refusals ports.old))
@@ -127,10 +129,11 @@ where
     <Q::Port as Port>::Link: Send,
     requires few { length team.workers ≤ 4096 }
     requires out { length team.workers ≤ Q.out ports.old }
-    ensures { EndsServed
+    ensures { EndsServed (HasServedPort
         (λ link. linked (Q.Port.Link.left link) (Q.Port.Link.read_faults link) (Q.Port.Link.sent link) (Q.Port.Link.write_faults link) (Q.Port.Link.refusals link) (Q.Port.Link.agains link))
+        (λ port. port_state (Q.Port.links port) (Q.Port.returned port) (Q.Port.faults port) (Q.Port.refusals port)) C.coming)
         (λ port. port_state (Q.Port.links port) (Q.Port.returned port) (Q.Port.faults port) (Q.Port.refusals port))
-        C.coming team.opening team.workers
+        team.opening team.workers
         (ports_state (Q.waiting ports.old) (Q.taken_back ports.old) (Q.out ports.old) (Q.faults ports.old) (Q.refusals ports.old))
         (ports_state (Q.waiting ports.new) (Q.taken_back ports.new) (Q.out ports.new) (Q.faults ports.new) (Q.refusals ports.new))
         (outgoing (K.sent sink.old) (K.write_faults sink.old) (K.refusals sink.old)) (outgoing (K.sent sink.new) (K.write_faults sink.new) (K.refusals sink.new)) result }

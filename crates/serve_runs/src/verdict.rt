@@ -7,7 +7,7 @@ use worker_team::Member;
 
 /// How all workers ended.
 #[derive(Clone, Copy, Debug, PartialEq, Eq)]
-pub(crate) enum Verdict {
+pub enum Verdict {
     /// Each since no link was left or it had served as many as it may; so many links were served in all.
     Well(u128),
     /// A port failed.
@@ -17,7 +17,7 @@ pub(crate) enum Verdict {
 }
 
 /// How these workers, 4,096 at most, ended.
-pub(crate) fn verdict_on<P>(members: &[Member<P>]) -> Verdict
+pub fn verdict_on<P>(members: &[Member<P>]) -> Verdict
     requires { length members.now ≤ 4096 }
     ensures { Tells members.now result }
 {

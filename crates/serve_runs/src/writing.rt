@@ -10,8 +10,9 @@ use itoa::Buffer;
 use sink_writes::{Unwritten, write_all};
 use std::alloc::Global;
 
-/// Writes the line, and tells how the run ends: `Done`, `WriteFault` or `NoMemory`.
-pub(crate) fn write_total<K: Sink>(alloc: Global, total: u128, sink: &mut K) -> ServeEnd
+/// Writes the line `sessions=<total>`, with LF, and tells how the run ends: `Done`; `WriteFault` where the sink failed, and
+/// `NoMemory` where memory was refused for the line or to the sink: a front of the line was written then.
+pub fn write_total<K: Sink>(alloc: Global, total: u128, sink: &mut K) -> ServeEnd
     ensures { WritesTotal (outgoing (K.sent sink.old) (K.write_faults sink.old) (K.refusals sink.old)) total
         (outgoing (K.sent sink.new) (K.write_faults sink.new) (K.refusals sink.new)) result }
 {

@@ -3,29 +3,40 @@ ghost use Rattle.std.specs.Prelude.{◌≡◌, ◌==◌, not, None};
 
 use crate::link::TcpLink;
 use arc_core::End;
-use std::io::{ErrorKind, Read, Write};
-use std::net::{OpenListener, OpenStream};
+use full_table::{Notice, is_full};
+use std::io::ErrorKind;
+use std::net::{Net, OpenListener, OpenStream};
+use std::rt::Clock;
+use std::thread;
+use std::time::Duration;
 use worker_server::{Next, Port};
 
-/// A port over a listener, as a TCP socket that listens. Several may share one, and a connection comes to one of them. It tells
-/// nothing of the connections.
+/// How long a port waits where the system has no room for a connection, before it asks again: in milliseconds.
+const PAUSE: u64 = 100;
+
+/// A port over a TCP socket that listens. Several may share one, and a connection comes to one of them. It tells nothing of
+/// the connections.
+///
+/// Where the system has no room for a connection now, as where the table of descriptors is full, it says so once and asks
+/// again ten times a second.
 #[derive(Drop)]
-pub struct TcpPort<A> {
-    listener: A,
+pub struct TcpPort<R: Net> {
+    rt: R,
+    listener: R::Listener,
+    notice: Notice,
     faults: u64,
-    refusals: u64,
 }
 
-impl<A: OpenListener> TcpPort<A> {
+impl<R: Net> TcpPort<R> {
     /// A port that has not failed yet.
-    pub fn new(listener: A) -> TcpPort<A>
+    pub fn new(rt: R, listener: R::Listener, notice: Notice) -> TcpPort<R>
         ensures no_fault { result.faults ≡ 0 }
-        ensures no_refusal { result.refusals ≡ 0 }
     {
         TcpPort {
+            rt,
             listener,
+            notice,
             faults: 0,
-            refusals: 0,
         }
     }
 
@@ -37,11 +48,8 @@ impl<A: OpenListener> TcpPort<A> {
     }
 }
 
-impl<A: OpenListener> Port for TcpPort<A>
-where
-    A::Stream: Read + Write + OpenStream,
-{
-    type Link = TcpLink<A::Stream>;
+impl<R: Net + Clock + Eprint> Port for TcpPort<R> {
+    type Link = TcpLink<R::Stream>;
 
     ghost links = { λ _. None };
 
@@ -49,11 +57,11 @@ where
 
     ghost faults = { λ port. port.faults };
 
-    ghost refusals = { λ port. port.refusals };
+    ghost refusals = { λ _. 0 };
 
     ghost has_room = { λ _. Unit {0} };
 
-    fn next(&mut self) -> Next<TcpLink<A::Stream>> {
+    fn next(&mut self) -> Next<TcpLink<R::Stream>> {
         for _ in 0..u64::MAX {
             match self.listener.accept() {
                 Ok((stream, _)) => {
@@ -64,9 +72,9 @@ where
                 // A signal came, or the peer is gone already: the call is made again.
                 Err(error) if error.kind() == ErrorKind::Interrupted => {}
                 Err(error) if error.kind() == ErrorKind::ConnectionAborted => {}
-                Err(error) if error.kind() == ErrorKind::OutOfMemory => {
-                    self.refusals = self.refusals.saturating_add(1);
-                    return Next::NoMemory;
+                Err(error) if is_full(&error) => {
+                    self.notice.give(&self.rt, &error);
+                    thread::sleep(&self.rt, Duration::from_millis(PAUSE));
                 }
                 Err(_) => break,
             }
@@ -76,5 +84,5 @@ where
     }
 
     // The connection is closed where the link is let go.
-    fn done(&mut self, _link: TcpLink<A::Stream>, _end: End) {}
+    fn done(&mut self, _link: TcpLink<R::Stream>, _end: End) {}
 }

@@ -1,51 +1,67 @@
 //! The ports of all workers.
-ghost use Rattle.std.specs.Prelude.{◌≡◌, None, IfSome};
+ghost use Rattle.std.specs.Prelude.{◌≡◌, None, IfOk};
 
 use crate::port::TcpPort;
 use arc_core::Failed;
-use std::io::{Read, Write};
-use std::net::{Ipv4Addr, Net, OpenListener, OpenStream, SocketAddr, SocketAddrV4};
+use full_table::Notice;
+use std::alloc::Global;
+use std::io::{self, ErrorKind};
+use std::net::{Ipv4Addr, Net, OpenListener, SocketAddr, SocketAddrV4};
+use std::rt::Clock;
 use worker_ports::{Handed, Ports};
 
 /// Ports over one TCP socket, which listens on 127.0.0.1 alone. They tell nothing of themselves.
+#[derive(Drop)]
 pub struct TcpPorts<R: Net> {
-    net: R,
+    rt: R,
+    alloc: Global,
     listener: Option<R::Listener>,
+    notice: Option<Notice>,
     out: u64,
     faults: u64,
     refusals: u64,
 }
 
-impl<R: Net> TcpPorts<R> {
-    /// Ports that listen to nothing yet.
-    pub fn new(net: R) -> TcpPorts<R>
+impl<R: Net + Copy> TcpPorts<R> {
+    /// Ports that listen to nothing yet. Takes no memory.
+    pub fn new(rt: R, alloc: Global) -> TcpPorts<R>
         ensures none_out { result.out ≡ 0 }
         ensures no_fault { result.faults ≡ 0 }
         ensures no_refusal { result.refusals ≡ 0 }
     {
         TcpPorts {
-            net,
+            rt,
+            alloc,
             listener: None,
+            notice: None,
             out: 0,
             faults: 0,
             refusals: 0,
         }
     }
 
-    // A port that shares the socket, where there is one.
-    fn share(&self) -> Option<TcpPort<R::Listener>>
-        ensures { IfSome result (λ port. port.faults ≡ 0) }
+    // A port that shares the socket, where there is one, and the notice.
+    fn share(&mut self) -> io::Result<TcpPort<R>>
+        ensures port { IfOk result (λ port. port.faults ≡ 0) }
+        ensures out { self.new.out ≡ self.old.out }
+        ensures faults { self.new.faults ≡ self.old.faults }
+        ensures refusals { self.new.refusals ≡ self.old.refusals }
     {
-        let listener = self.listener.as_ref()?;
-        match listener.try_clone() {
-            Ok(own) => Some(TcpPort::new(own)),
-            Err(_) => None,
-        }
+        let Some(listener) = &self.listener else {
+            return Err(io::Error::from(ErrorKind::NotConnected));
+        };
+        let own = listener.try_clone()?;
+        let notice = match &self.notice {
+            Some(notice) => notice.share()?,
+            None => Notice::new(self.alloc)?,
+        };
+        self.notice = Some(notice.share()?);
+        Ok(TcpPort::new(self.rt, own, notice))
     }
 }
 
-impl<R: Net> Ports for TcpPorts<R> {
-    type Port = TcpPort<R::Listener>;
+impl<R: Net + Clock + Eprint + Copy> Ports for TcpPorts<R> {
+    type Port = TcpPort<R>;
 
     ghost waiting = { λ _. None };
 
@@ -59,7 +75,7 @@ impl<R: Net> Ports for TcpPorts<R> {
 
     fn bind(&mut self, number: u16) -> Result<(), Failed> {
         let address = SocketAddr::V4(SocketAddrV4::new(Ipv4Addr::LOCALHOST, number));
-        match self.net.bind(address) {
+        match self.rt.bind(address) {
             Ok(listener) => {
                 self.listener = Some(listener);
                 Ok(())
@@ -71,11 +87,15 @@ impl<R: Net> Ports for TcpPorts<R> {
         }
     }
 
-    fn hand(&mut self) -> Handed<TcpPort<R::Listener>> {
+    fn hand(&mut self) -> Handed<TcpPort<R>> {
         match self.share() {
-            Some(port) if self.out < u64::MAX => {
+            Ok(port) if self.out < u64::MAX => {
                 self.out += 1;
                 Handed::Port(port)
+            }
+            Err(error) if error.kind() == ErrorKind::OutOfMemory => {
+                self.refusals = self.refusals.saturating_add(1);
+                Handed::NoMemory
             }
             _ => {
                 self.faults = self.faults.saturating_add(1);
@@ -84,7 +104,7 @@ impl<R: Net> Ports for TcpPorts<R> {
         }
     }
 
-    fn back(&mut self, port: TcpPort<R::Listener>) {
+    fn back(&mut self, port: TcpPort<R>) {
         if port.has_failed() {
             self.faults = self.faults.saturating_add(1);
         }

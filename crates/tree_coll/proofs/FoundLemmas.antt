@@ -53,7 +53,7 @@ alone e x same =
     rw below (rw above refl)
 
 -- an element in the place of one of its bkey stands behind the smaller ones and before the greater ones
-replaced : (e : Elem) (xs : List Elem) (n : ℕ) → IsRising xs → n < length xs → ((d : Elem) → e.bkey ≡ (get_or xs n d).bkey) → slice_set xs n e ≡ with_element e xs
+pub replaced : (e : Elem) (xs : List Elem) (n : ℕ) → IsRising xs → n < length xs → ((d : Elem) → e.bkey ≡ (get_or xs n d).bkey) → slice_set xs n e ≡ with_element e xs
 replaced e xs n rising within same =
     let x = get_or xs n e in
     let T = take n xs in

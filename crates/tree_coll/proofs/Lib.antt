@@ -1,7 +1,12 @@
 pub mod ChangeLemmas
 pub mod CountLemmas
 pub mod FoundLemmas
+pub mod PartLemmas
 pub mod PlaceLemmas
 pub mod ReadLemmas
 pub mod SizeLemmas
+pub mod StoreLemmas
+pub mod StoreSizes
+pub mod TakeLemmas
 pub mod WalkLemmas
+pub mod WithoutLemmas

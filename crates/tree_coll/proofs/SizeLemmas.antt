@@ -20,7 +20,7 @@ lowered : (all left gone size lost : ℕ) → left + gone ≡ all → size ≡ a
 lowered all left gone size lost sum size_is lost_is = omega arith
 
 -- the sizes of what is left and of what is removed
-range_size : (xs : List Elem) (low high : ℕ) → low ≤ high → elem_sizes (remove_range xs low high) + elem_sizes (slice_range xs low high) ≡ elem_sizes xs
+pub range_size : (xs : List Elem) (low high : ℕ) → low ≤ high → elem_sizes (remove_range xs low high) + elem_sizes (slice_range xs low high) ≡ elem_sizes xs
 range_size xs low high order =
     let whole = ap elem_sizes (split_between xs low high order) ∙ sum_by-append elem_size (take low xs) (slice_range xs low high ++ drop high xs) in
     omega (arith, whole, sum_by-append elem_size (slice_range xs low high) (drop high xs), sum_by-append elem_size (take low xs) (drop high xs))
@@ -33,7 +33,7 @@ range_removed xs new low high size lost order is size_is lost_is =
     ∙ ap (λ ys. elem_sizes ys % 2 ^ 64) (sym is)
 
 -- an element in the place of its bkey stands behind the smaller ones and before the greater ones
-placed : (e : Elem) (xs : List Elem) (n : ℕ) → IsNewAt e.bkey xs n → insert xs n e ≡ with_element e xs
+pub placed : (e : Elem) (xs : List Elem) (n : ℕ) → IsNewAt e.bkey xs n → insert xs n e ≡ with_element e xs
 placed e xs n at =
     sym (ap (with_element e) (sym (take-append-drop n xs)) ∙ (with_front e (take n xs) (drop n xs) at.before ∙ ap (λ ys. take n xs ++ ys) (with_back e [] (drop n xs) at.behind)))
 

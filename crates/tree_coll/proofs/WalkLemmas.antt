@@ -81,7 +81,7 @@ few_selected range asked elements =
     let inside = filter (λ element. is_in_range range element.bkey) elements in
     omega (arith, no_more (is_selected asked) (span (λ element. element.bkey) range elements), as_many (is_down range) inside, no_more (λ element. is_in_range range element.bkey) elements)
 
-limited : (count all : ℕ) (xs : List Elem) → length xs ≤ all → take (limit_of count all) xs ≡ take_count count xs
+pub limited : (count all : ℕ) (xs : List Elem) → length xs ≤ all → take (limit_of count all) xs ≡ take_count count xs
 limited zero all xs le = take_all all xs le
 limited (suc n) all xs le = refl
 

@@ -1,4 +1,5 @@
 pub mod TreeHolding
 pub mod TreeOutcomes
+pub mod TreePlanning
 pub mod TreeRows
 pub mod WorkedTreeRows

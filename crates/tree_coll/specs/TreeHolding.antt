@@ -1,5 +1,5 @@
 -- What contracts see of a tree as an item.
-use Rattle.std.specs.Prelude.{◌≡◌, ℕ, zero, suc, Bool, if◌then◌else◌, List, Option, None}
+use Rattle.std.specs.Prelude.{ℕ, zero, suc, Bool, if◌then◌else◌, List, Option, None}
 use Rattle.arc_core.specs.declared.rows.Tail.{Tail}
 use Rattle.arc_core.specs.declared.rows.Tail.TheVariants as tail
 use Rattle.tree_coll.specs.declared.replies.TreeWord.{TreeWord}
@@ -9,8 +9,7 @@ use Rattle.arc_core.specs.declared.bkeys.Bkey.{Bkey}
 use Rattle.arc_core.specs.declared.bkeys.BkeyRange.{BkeyRange}
 use Rattle.arc_core.specs.declared.trees.Edges.{Edges}
 use Rattle.arc_core.specs.declared.trees.Elem.{Elem}
-use Rattle.tree_coll.specs.declared.replies.TreeReply.{TreeReply}
-use Rattle.tree_coll.specs.TreeOutcomes.{Outcome, TreeContents, stays, becomes, goes}
+use Rattle.tree_coll.specs.TreeOutcomes.{TreeContents}
 
 -- The elements with the edges, and for how many further elements there is room.
 pub record TreeHeld : Type 0 where
@@ -41,9 +40,3 @@ zone_tail met = if met then tail.Trimmed else tail.End
 
 abbrev pub zone_word : Bool → TreeWord
 zone_word met = if met then word.OutOfRange else word.NotFoundElement
-
--- What a request came to with a tree that does not go: what the tree holds then, and what is answered.
-abbrev pub ComesTo : Outcome → (old new : TreeContents) → (answer : TreeReply) → Type 0
-ComesTo (stays reply) old new answer = (new ≡ old) × (answer ≡ reply)
-ComesTo (becomes tree reply) old new answer = (new ≡ tree) × (answer ≡ reply)
-ComesTo (goes reply) old new answer = ⊥

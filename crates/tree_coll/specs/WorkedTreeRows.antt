@@ -155,6 +155,10 @@ equal_flags_are_counted = refl
 equal_flags_are_deleted : tree_delete (filtered comp.Eq) true plain four_flags ≡ becomes (tree no_edges (flagged 3 51 (codes "c") ∷ elem 4 (codes "d") ∷ [])) (reply.Word word.Deleted)
 equal_flags_are_deleted = refl
 
+last_other_flag_is_taken : tree_get (record { range = from_to 4 1; filter = Some (low_bits comp.Ne); offset = 0; count = 1 }) taking.Delete plain four_flags
+    ≡ becomes (tree no_edges (flagged 1 17 (codes "a") ∷ flagged 2 34 (codes "b") ∷ flagged 3 51 (codes "c") ∷ [])) (reply.Rows 0 (tree_row (elem 4 (codes "d")) ∷ []) tail.Deleted)
+last_other_flag_is_taken = refl
+
 -- OFFSET AND COUNT, AND TAKING
 
 abbrev digits : TreeContents
@@ -223,6 +227,11 @@ three_is_refused : tree_insert (elem 3 (codes "e")) false ten_wide (tree (low_at
     ≡ becomes (tree (low_at 5) (elem 10 (codes "c") ∷ elem 16 (codes "d") ∷ [])) (reply.Word word.OutOfRange)
 three_is_refused = refl
 
+-- the greatest go, all beyond the range, and the edge is the least of them
+zero_trims_two : tree_insert (elem 0 (codes "z")) true (limited 4000 4 action.LargestTrim) (tree no_edges (elem 5 (codes "b") ∷ elem 10 (codes "c") ∷ []))
+    ≡ becomes (tree (high_at 5) (elem 0 (codes "z") ∷ [])) (reply.Rows 0 (tree_row (elem 5 (codes "b")) ∷ tree_row (elem 10 (codes "c")) ∷ []) tail.Trimmed)
+zero_trims_two = refl
+
 -- UPSERTS
 
 upsert_trims_nothing : tree_upsert (flagged 2 7 (codes "x")) true three one_to_three
@@ -278,6 +287,17 @@ without_initial_nothing = refl
 text_is_no_number : tree_arith true (Number 2) 1 (Some 7) None plain one_to_three ≡ refused word.NotNumeric
 unfolding words.number_below
 text_is_no_number = refl
+
+-- a first number is an insert: it is refused at an end, and by its kind where a range is a bound
+first_number_is_refused : tree_arith true (Number 4) 1 (Some 7) None (limited 1 0 action.LargestTrim) (tree (high_at 5) (elem 3 (codes "b") ∷ []))
+    ≡ becomes (tree (high_at 4) (elem 3 (codes "b") ∷ [])) (reply.Word word.OutOfRange)
+first_number_is_refused = refl
+
+first_number_has_no_bytes : tree_arith true (Bytes (1 ∷ [])) 1 (Some 7) None (limited 4000 10 action.SmallestTrim) empty_tree ≡ refused word.BkeyMismatch
+first_number_has_no_bytes = refl
+
+bytes_are_looked_for : tree_arith true (Bytes (1 ∷ [])) 1 None None (limited 4000 10 action.SmallestTrim) empty_tree ≡ refused word.NotFoundElement
+bytes_are_looked_for = refl
 
 -- POSITIONS
 

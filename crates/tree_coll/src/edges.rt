@@ -1,6 +1,7 @@
 //! Edges of what was trimmed.
 ghost use Rattle.std.specs.Prelude.{◌≡◌};
 ghost use Rattle.arc_core.specs.Settling.{edge_above, edge_below, out_of_range, settled_edges};
+ghost use Rattle.tree_coll.specs.TreePlanning.{moved_over};
 
 use arc_core::{Action, Bkey, Edges, Side};
 
@@ -46,6 +47,24 @@ pub fn refused_edges(action: Action, bkey: Bkey, side: Side, edges: Edges) -> Ed
         (Action::LargestTrim, Side::High) => Edges {
             low: edges.low,
             high: edge_below(edges.high, bkey),
+        },
+        _ => edges,
+    }
+}
+
+/// The edges after a trim, by the first and the last bkey that it took: an action that announces its trims moves its edge
+/// over them. (This server's own.)
+pub(crate) fn trimmed_edges(action: Action, first: Bkey, last: Bkey, edges: Edges) -> Edges
+    ensures { result ≡ moved_over action first last edges }
+{
+    match action {
+        Action::SmallestTrim => Edges {
+            low: edge_above(edges.low, last),
+            high: edges.high,
+        },
+        Action::LargestTrim => Edges {
+            low: edges.low,
+            high: edge_below(edges.high, first),
         },
         _ => edges,
     }

@@ -69,8 +69,8 @@ fn element_at<'t, L: Ledger>(
     at_position(held.tree(), place, steps)
 }
 
-// The elements at these positions, in their direction.
-fn rows_at<L: Ledger>(
+/// The elements at these positions, in their direction.
+pub(crate) fn rows_at<L: Ledger>(
     alloc: Global,
     held: &TreeColl,
     desc: bool,

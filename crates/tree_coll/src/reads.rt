@@ -4,11 +4,14 @@ ghost use Rattle.arc_core.specs.declared.collections.Take.TheVariants as taking;
 ghost use Rattle.arc_core.specs.TreeReading.{chosen, covered_range};
 ghost use Rattle.tree_coll.specs.TreeHolding.{zone_tail, zone_word};
 ghost use Rattle.tree_coll.specs.TreeOutcomes.{stays, tree_row};
+ghost use Rattle.tree_coll.specs.TreePlanning.{Plans, SuitsPlan};
 ghost use Rattle.tree_coll.specs.TreeRows.{chosen_read, tree_count, tree_get, tree_position};
 
+use crate::planned::answered;
+use crate::takes::plan_taken;
 use crate::walk::{Walked, walk};
-use crate::{TreeColl, TreeReply, TreeWord, is_of_kind, meets_zone};
-use arc_core::{Attrs, Bkey, BkeyRange, Filter, NoMemory, Tail, TreeRead};
+use crate::{TreeColl, TreePlanned, TreeReply, TreeWord, is_of_kind, meets_zone};
+use arc_core::{Attrs, Bkey, BkeyRange, Filter, NoMemory, Tail, Take, TreeRead};
 use btree_nodes::Steps;
 use btree_scan::{Position, count_in, position_of};
 use std::alloc::Global;
@@ -32,31 +35,41 @@ fn zone_word(met: bool) -> TreeWord
     }
 }
 
-/// `bop get` without taking: the elements of a range that pass the filter, in the range's direction, without the first
-/// `offset`, and `count` of them, or all for 0.
+/// `bop get`: the elements of a range that pass the filter, in the range's direction, without the first `offset`, and `count`
+/// of them, or all for 0. They are taken out where `take` says so; the edges stay then.
 ///
-/// `BKEY_MISMATCH` comes for a range of another kind than the tree's. It ends with TRIMMED exactly where what it covers
-/// meets the zone of what was trimmed. Where it finds none, `OUT_OF_RANGE` comes where the whole range meets the zone, and
-/// else `NOT_FOUND_ELEMENT`. It walks along its range once, up to the last element that it answers. `NoMemory` comes for want
-/// of memory alone. (ARCUS's; the zone is this server's own.)
-pub fn read_tree<L: Ledger>(
+/// `BKEY_MISMATCH` comes for a range of another kind than the tree's. A read that takes nothing ends with TRIMMED exactly where
+/// what it covers meets the zone of what was trimmed. Where it finds none, `OUT_OF_RANGE` comes where the whole range meets the
+/// zone, and else `NOT_FOUND_ELEMENT`. It walks along its range once, up to the last element that it answers, and again for
+/// the places of what is taken by a filter. `NoMemory` comes for want of memory alone. (ARCUS's; the zone is this server's
+/// own.)
+pub fn read_tree<'a, L: Ledger>(
     held: &TreeColl,
     attrs: &Attrs,
     alloc: Global,
-    read: &TreeRead<'_>,
+    read: &'a TreeRead<'a>,
+    take: Take,
     steps: &mut Steps<L>,
-) -> Result<TreeReply, NoMemory>
-    ensures { IfOk result (λ answer. tree_get read.now taking.Keep attrs.now held.now.contents ≡ stays answer) }
+) -> Result<TreePlanned<'a>, NoMemory>
+    ensures plans { IfOk result (λ plan. Plans (tree_get read.now take attrs.now held.now.contents) held.now.contents plan) }
+    ensures suits { IfOk result (λ plan. SuitsPlan held.now.contents plan) }
 {
     if !is_of_kind(&read.range.first, held.tree(), held.edges(), steps) {
-        return Ok(TreeReply::Word(TreeWord::BkeyMismatch));
+        return Ok(answered(TreeWord::BkeyMismatch));
     }
     let walked = walk(alloc, held.tree(), read, steps)?;
-    Ok(answer_read(held, attrs, read, walked, steps))
+    match take {
+        Take::Keep => {
+            let answer = answer_read(held, attrs, read, walked, steps);
+            Ok(TreePlanned::Stays(answer))
+        }
+        Take::Delete => Ok(plan_taken(held, attrs, read, walked, false, steps)),
+        Take::Drop => Ok(plan_taken(held, attrs, read, walked, true, steps)),
+    }
 }
 
-// The answer to a read by its walk.
-fn answer_read<L: Ledger>(
+/// The answer to a read that takes nothing, by its walk.
+pub(crate) fn answer_read<L: Ledger>(
     held: &TreeColl,
     attrs: &Attrs,
     read: &TreeRead<'_>,

@@ -29,7 +29,7 @@ struct Collected {
 }
 
 // Whether an element passes the filter, where there is one.
-fn is_selected(filter: &Option<Filter<'_>>, element: &Elem) -> bool
+pub(crate) fn is_selected(filter: &Option<Filter<'_>>, element: &Elem) -> bool
     ensures { result ≡ is_selected filter.now element.now }
 {
     match filter {
@@ -133,7 +133,7 @@ pub(crate) fn walk<L: Ledger>(
 
 // The most elements that a read of a tree of so many answers.
 #[tactic(auto, using(crate::proofs::WalkLemmas::limit_at, crate::proofs::WalkLemmas::all_at))]
-fn limit_of(count: u32, all: u32) -> u32
+pub(crate) fn limit_of(count: u32, all: u32) -> u32
     ensures { result ≡ limit_of count all }
 {
     if count == 0 { all } else { count }

@@ -9,3 +9,4 @@ mod returns;
 
 pub use memory::{MemoryPorts, PortsCalls};
 pub use ports::{Handed, Ports};
+pub use returns::Returns;

@@ -8,7 +8,7 @@ use std::marker::Model;
 
 /// The ports that came back, with room for those that are out. Contracts see both.
 #[derive(Drop)]
-pub(crate) struct Returns<P> {
+pub struct Returns<P> {
     ports: Vec<P>,
     out: usize,
 }
@@ -26,7 +26,7 @@ impl<P> Model for Returns<P> {
 
 impl<P> Returns<P> {
     /// None came back, and none is out. Takes no memory.
-    pub(crate) fn new(alloc: Global) -> Returns<P>
+    pub fn new(alloc: Global) -> Returns<P>
         ensures { result ≡ kept [] 0 }
     {
         Returns {
@@ -36,7 +36,7 @@ impl<P> Returns<P> {
     }
 
     /// The ports that came back.
-    pub(crate) fn ports(&self) -> &[P]
+    pub fn ports(&self) -> &[P]
         ensures { result.now ≡ self.now.returned }
     {
         &self.ports
@@ -44,7 +44,7 @@ impl<P> Returns<P> {
 
     /// Makes room for one more, which is out from now on. `NoMemory` comes for want of memory alone, and nothing has changed
     /// then.
-    pub(crate) fn lend(&mut self) -> Result<(), NoMemory>
+    pub fn lend(&mut self) -> Result<(), NoMemory>
         ensures lent { OnOk result (self.new ≡ kept self.old.returned (self.old.out + 1)) }
         ensures refused { OnErr result (self.new ≡ self.old) }
     {
@@ -55,8 +55,8 @@ impl<P> Returns<P> {
         Ok(())
     }
 
-    /// Takes one back.
-    pub(crate) fn take(&mut self, port: P)
+    /// Takes one back, behind the others. Takes no memory.
+    pub fn take(&mut self, port: P)
         requires { 0 < self.old.out }
         ensures back { self.new.returned ≡ self.old.returned ++ port ∷ [] }
         ensures out { self.old.out ≡ self.new.out + 1 }

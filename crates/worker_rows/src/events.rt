@@ -126,13 +126,15 @@ fn two_links_are_served_in_turn(rt: HostRuntime) -> Result<(), Fail> {
     expect_run(&rt, rt.alloc(), &[LATE, EARLY], &run)
 }
 
-const CROWDED: Row<'static> = Row {
+/// It comes while there is no room.
+pub(crate) const CROWDED: Row<'static> = Row {
     input: "version|",
     end: End::Crowded,
     ..EMPTY
 };
 
-const WAITING: Row<'static> = Row {
+/// It has to be asked again before its request comes.
+pub(crate) const WAITING: Row<'static> = Row {
     input: "get k|",
     again_pulls: &[0],
     output: "END|",

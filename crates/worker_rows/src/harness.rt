@@ -31,13 +31,19 @@ pub(crate) const EMPTY: Row<'static> = Row {
 /// The bytes for which a row's text stands.
 pub(crate) fn bytes_of(alloc: Global, text: &str) -> Result<Vec<u8>, AllocError> {
     let mut bytes = Vec::new(alloc);
+    add_text(&mut bytes, text)?;
+    Ok(bytes)
+}
+
+/// Adds the bytes for which a row's text stands.
+pub(crate) fn add_text(bytes: &mut Vec<u8>, text: &str) -> Result<(), AllocError> {
     for &byte in text.as_bytes() {
         match byte {
             b'|' => bytes.extend_from_slice(b"\r\n")?,
             byte => bytes.push(byte)?,
         }
     }
-    Ok(bytes)
+    Ok(())
 }
 
 /// The link of this row.
@@ -93,14 +99,14 @@ pub(crate) fn expect_rows(
     Ok(())
 }
 
-// An empty cache of 64 MiB.
-fn empty_cache(alloc: Global) -> Result<Cache, Fail> {
+/// An empty cache of 64 MiB.
+pub(crate) fn empty_cache(alloc: Global) -> Result<Cache, Fail> {
     let settings = Settings::of_mib(64).ok_or("64 MiB is a limit")?;
     Ok(Cache::new(alloc, settings)?)
 }
 
-// A cache on which a session has run at second 0, to which this text came.
-fn cache_after(alloc: Global, text: &str) -> Result<Cache, Fail> {
+/// A cache of 64 MiB on which a session has run at second 0, to which this text came.
+pub(crate) fn cache_after(alloc: Global, text: &str) -> Result<Cache, Fail> {
     let mut desk = Direct {
         executor: empty_cache(alloc)?,
     };

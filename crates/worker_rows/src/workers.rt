@@ -1,9 +1,10 @@
 //! Workers over one cache: sessions one after another, and two side by side.
 ghost use Rattle.std.specs.Prelude.{◌≡◌, None, IfOk};
 
-use crate::harness::{EMPTY, Row, expect_rows, links_of, opened};
-use arc_core::{End, Link, ListClock, MemoryLink, Pull, Push};
+use crate::harness::{EMPTY, Row, empty_cache, expect_rows, links_of, opened};
+use arc_core::{End, Link, ListClock, MemoryLink, MemorySink, Pull, Push};
 use cache_engine::Cache;
+use serve_runs::{ServeEnd, Serving, serve_ports};
 use std::alloc::{AllocError, Global};
 use std::process::Abort;
 use std::sync::Arc;
@@ -12,6 +13,7 @@ use std::sync::atomic::Ordering::SeqCst;
 use std::test::Fail;
 use std::thread::yield_now;
 use turn_lock::Seat;
+use worker_ports::{MemoryPorts, PortsCalls};
 use worker_server::{MemoryPort, Worker, WorkerEnd, run_worker, serve_all};
 
 /// A worker over memory.
@@ -147,6 +149,22 @@ impl Link for Twin {
     }
 }
 
+// One such link.
+fn twin_links(
+    alloc: Global,
+    own: &Arc<AtomicU64, Global>,
+    other: &Arc<AtomicU64, Global>,
+) -> Result<Vec<Twin>, AllocError> {
+    let mut links = Vec::new(alloc);
+    links.push(Twin {
+        at: 0,
+        own: Arc::try_clone(own)?,
+        other: Arc::try_clone(other)?,
+        faults: 0,
+    })?;
+    Ok(links)
+}
+
 // A worker to which one such link comes.
 fn twin_worker(
     alloc: Global,
@@ -156,14 +174,7 @@ fn twin_worker(
 ) -> Result<CacheWorker<Twin>, AllocError>
     ensures { IfOk result (λ w. w.seat ≡ seat) }
 {
-    let mut links = Vec::new(alloc);
-    links.push(Twin {
-        at: 0,
-        own: Arc::try_clone(own)?,
-        other: Arc::try_clone(other)?,
-        faults: 0,
-    })?;
-    worker_of(alloc, seat, links, &[], 0)
+    worker_of(alloc, seat, twin_links(alloc, own, other)?, &[], 0)
 }
 
 // Served one after another, the first session would end with a fault.
@@ -182,6 +193,41 @@ fn workers_run_side_by_side(rt: HostRuntime) -> Result<(), Fail> {
         assert_eq!(rt; worker.end, WorkerEnd::Closed);
         assert_eq!(rt; worker.next, 1);
         let ended = matches!(worker.port.returned(), [(_, End::Ended)]);
+        assert!(rt; ended);
+    }
+    Ok(())
+}
+
+// The same by the workers of a server, each of which has a port with one such link.
+#[test]
+fn workers_of_a_server_run_side_by_side(rt: HostRuntime) -> Result<(), Fail> {
+    let alloc = rt.alloc();
+    let first = Arc::new(alloc, AtomicU64::new(0))?;
+    let second = Arc::new(alloc, AtomicU64::new(0))?;
+    let mut waiting = Vec::new(alloc);
+    for (own, other) in [(&first, &second), (&second, &first)] {
+        let links = twin_links(alloc, own, other)?;
+        waiting.push(MemoryPort::new(alloc, links, Vec::new(alloc)))?;
+    }
+    let calls = PortsCalls {
+        failing_binds: Vec::new(alloc),
+        failing_hands: Vec::new(alloc),
+    };
+    let mut ports = MemoryPorts::new(alloc, waiting, calls);
+    let mut sink = MemorySink::new(alloc, 100, Vec::new(alloc));
+    let clock = ListClock::new(&[0]);
+    let job = Serving {
+        number: 7001,
+        workers: 2,
+        sessions: 1,
+    };
+    let cache = empty_cache(alloc)?;
+    let end = serve_ports(&rt, alloc, cache, job, &mut ports, &mut sink, &clock);
+    assert_eq!(rt; end, ServeEnd::Done);
+    assert_eq!(rt; sink.bytes(), b"sessions=2\n".as_slice());
+    assert_eq!(rt; ports.taken_back().len(), 2);
+    for port in ports.taken_back() {
+        let ended = matches!(port.returned(), [(_, End::Ended)]);
         assert!(rt; ended);
     }
     Ok(())

@@ -74,14 +74,11 @@ goes_on lock opening total done rest seat own seat' disbands joined =
       all = omega (arith, disbands.all, longer);
     }
 
--- so of the workers whose seats they are
-pub goes_on_by : {W : Type 0} (seat_of : W → SeatView) (lock : TableId) (before : CacheState) (total : ℕ) (done rest rest' : List W) (worker : W) (seat seat' : SeatView)
-    → Disbands lock before total (map seat_of done) (map seat_of rest) seat → rest ≡ worker ∷ rest' → seat' ≡ joined_seat seat (seat_of worker)
-    → Disbands lock before total (map seat_of (done ++ worker ∷ [])) (map seat_of rest') seat'
-goes_on_by seat_of lock before total done rest rest' worker seat seat' disbands next joined =
-    subst (λ seats. Disbands lock before total seats (map seat_of rest') seat') (sym (map_last seat_of done worker))
-    (goes_on lock before total (map seat_of done) (map seat_of rest') seat (seat_of worker) seat'
-    (subst (λ r. Disbands lock before total (map seat_of done) (map seat_of r) seat) next disbands) joined)
+-- so where the rest is known by another name
+pub goes_on_from : (lock : TableId) (before : CacheState) (total : ℕ) (done rest rest' : List SeatView) (seat own seat' : SeatView) → Disbands lock before total done rest seat
+    → rest ≡ own ∷ rest' → seat' ≡ joined_seat seat own → Disbands lock before total (done ++ own ∷ []) rest' seat'
+goes_on_from lock before total done rest rest' seat own seat' disbands next joined =
+    goes_on lock before total done rest' seat own seat' (subst (λ r. Disbands lock before total done r seat) next disbands) joined
 
 -- what is still out is the rest of all
 pub rest_goes_on : {W : Type 0} (all done rest rest' : List W) (worker : W) → all ≡ done ++ rest → rest ≡ worker ∷ rest' → all ≡ (done ++ worker ∷ []) ++ rest'
@@ -92,6 +89,16 @@ pub has_room : {W M R : Type 0} (of : M → R) (by : W → R) (members : List M)
     → map of members ≡ map by done → all ≡ done ++ rest → rest ≡ worker ∷ rest' → length all ≤ room → length members < room
 has_room of by members all done rest rest' worker room same are next enough =
     omega (arith, enough, ap length same, map_length of members, map_length by done, ap length are, length-append done rest, ap length next)
+
+pub seat_has_room : {W : Type 0} (by : W → SeatView) (seats : List SeatView) (all done rest rest' : List W) (worker : W) (room : ℕ)
+    → seats ≡ map by done → all ≡ done ++ rest → rest ≡ worker ∷ rest' → length all ≤ room → length seats < room
+seat_has_room by seats all done rest rest' worker room same are next enough =
+    omega (arith, enough, ap length same, map_length by done, ap length are, length-append done rest, ap length next)
+
+pub seat_goes_on : {W : Type 0} (by : W → SeatView) (seats seats' : List SeatView) (seat : SeatView) (done : List W) (worker : W)
+    → seats ≡ map by done → seats' ≡ seats ++ seat ∷ [] → seat ≡ by worker → seats' ≡ map by (done ++ worker ∷ [])
+seat_goes_on by seats seats' seat done worker same more is =
+    more ∙ (ap (λ ss. ss ++ seat ∷ []) same ∙ (ap (λ s. map by done ++ s ∷ []) is ∙ sym (map_last by done worker)))
 
 pub member_goes_on : {W M R : Type 0} (of : M → R) (by : W → R) (members members' : List M) (member : M) (done : List W) (worker : W)
     → map of members ≡ map by done → members' ≡ members ++ member ∷ [] → of member ≡ by worker → map of members' ≡ map by (done ++ worker ∷ [])

@@ -1,3 +1,4 @@
-mod Hiring
-mod Disbanding
-mod Running
+pub mod Hiring
+pub mod Disbanding
+pub mod Running
+mod Serving

@@ -1,4 +1,4 @@
--- How a team stands and is disbanded, for the functions within: no public clause cites what stands here.
+-- How the seats of a team stand, and how they are joined.
 use Rattle.std.specs.Prelude.{◌≡◌, ◌⊎◌, ℕ, ◌+◌, ◌<◌, List, [], ◌∷◌, length, Some, None}
 use Rattle.arc_core.specs.CacheState.{CacheState}
 use Rattle.arc_core.specs.History.{Entry}
@@ -27,15 +27,6 @@ abbrev pub AreFresh : TableId → CacheState → ℕ → List Post → Type 0
 AreFresh lock opening number [] = Unit {0}
 AreFresh lock opening number (first ∷ rest) =
     (first ≡ post (fresh_seat lock opening number) 0 worker_end.NotRun) × AreFresh lock opening (number + 1) rest
-
--- What is left of a worker: its port, how many links it handed back, and how it ended.
-pub record Left (P : Type 0) : Type 0 where
-  pub port : P
-  pub served : ℕ
-  pub ended : WorkerEnd
-
-abbrev pub left : {P : Type 0} → P → ℕ → WorkerEnd → Left P
-left port served ended = record { port = port; served = served; ended = ended }
 
 -- A seat of this lock with this number, into which none was joined, and which has no register.
 pub record IsOut (lock : TableId) (number : ℕ) (seat : SeatView) : Type 0 where

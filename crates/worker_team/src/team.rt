@@ -1,12 +1,14 @@
 //! The team.
 ghost use Rattle.std.specs.Prelude.{◌≡◌, ◌<◌, ◌≤◌, ◌==◌, ◌-◌, ◌^◌, ◌+◌, ◌∷◌, ◌++◌, [], length, map, vec_len, vec_capacity, if◌then◌else◌, IfOk, OnOk, OnErr, IfErr, MatchResult, ℕ};
 ghost use Rattle.arc_core.specs.CacheState.{CacheState};
+ghost use Rattle.std.specs.List.{AllByRecursion};
 ghost use Rattle.arc_core.specs.Outside.{linked};
 ghost use Rattle.worker_server.specs.declared.worker.WorkerEnd.TheVariants as worker_end;
 ghost use Rattle.worker_server.specs.Ports.{port_state};
-ghost use Rattle.worker_team.specs.Team.{hired, TeamHasWorked};
-ghost use Rattle.worker_team.specs.Disbanding.{main_seat, left, AreOut, Closes};
+ghost use Rattle.worker_team.specs.Team.{hired, left, HasNotRun, HasServedPort, TeamHasWorked};
+ghost use Rattle.worker_team.specs.Disbanding.{main_seat};
 
+use crate::closing::close_joined;
 use arc_core::{Clock, Executor, NoMemory};
 use pipe_session::Session;
 use std::alloc::Global;
@@ -33,6 +35,7 @@ pub struct Team<E: Executor + Drop, P, C> {
     seat: Seat<E>,
     workers: Vec<Worker<E, P, C>>,
     // Room for what is left of each.
+    seats: Vec<Seat<E>>,
     members: Vec<Member<P>>,
 }
 
@@ -55,6 +58,7 @@ impl<E: Executor + Drop, P, C> Model for Team<E, P, C> {
 
     ghost invariant = { λ team. (team.seat ≡ main_seat team.lock team.seat.opening (length team.workers.items))
         × AreFresh team.lock team.seat.opening 1 (map (λ w. post w.seat w.next w.end) team.workers.items)
+        × (team.seats.items ≡ []) × (vec_capacity team.workers ≤ vec_capacity team.seats)
         × (team.members.items ≡ []) × (vec_capacity team.workers ≤ vec_capacity team.members) };
 }
 
@@ -67,6 +71,7 @@ impl<E: Executor + Drop, P: Drop, C: Drop> Team<E, P, C> {
         ensures room { IfOk result (λ team. room ≤ team.room) }
     {
         let workers = Vec::with_capacity(alloc, room)?;
+        let seats = Vec::with_capacity(alloc, workers.capacity())?;
         let members = Vec::with_capacity(alloc, workers.capacity())?;
         let (lock, seat) = TurnLock::new(alloc, executor)?;
         Ok(Team {
@@ -74,6 +79,7 @@ impl<E: Executor + Drop, P: Drop, C: Drop> Team<E, P, C> {
             lock,
             seat,
             workers,
+            seats,
             members,
         })
     }
@@ -106,25 +112,21 @@ impl<E: Executor + Drop, P: Drop, C: Drop> Team<E, P, C> {
 }
 
 impl<E: Executor + Drop, P: Drop, C: Drop> Team<E, P, C> {
-    /// Sends all workers away before they have run, and hands out what is left of each, in order.
+    /// Sends all workers away before they have run, and hands out what is left of each, in order: the port as it was, and that
+    /// the worker has not run.
     pub fn dismiss(self) -> Vec<Member<P>>
         ensures ports { map (λ m. m.port) result.items ≡ map (λ w. w.port) self.workers }
+        ensures not_run { AllByRecursion HasNotRun result.items }
     {
         let Team {
             alloc: _,
             lock: _,
             seat: _,
             workers,
+            seats,
             members,
         } = self;
-        let mut members = members;
-        for worker in workers {
-            members.push_reserved(Member {
-                port: worker.port,
-                served: worker.next,
-                end: worker.end,
-            });
-        }
+        let (_seats, members) = part(workers, seats, members);
         members
     }
 }
@@ -136,56 +138,55 @@ where
     /// Runs all workers side by side, until each has ended, and hands out the executor, and what is left of each worker, in
     /// order.
     pub fn serve<R: Threads + Wait + Sync>(self, rt: &R) -> (E, Vec<Member<P>>)
-        ensures { TeamHasWorked
+        ensures { TeamHasWorked (HasServedPort
             (λ link. linked (P.Link.left link) (P.Link.read_faults link) (P.Link.sent link) (P.Link.write_faults link) (P.Link.refusals link) (P.Link.agains link))
-            (λ port. port_state (P.links port) (P.returned port) (P.faults port) (P.refusals port))
-            C.coming self.opening self.workers (E.state result.0) result.1.items }
+            (λ port. port_state (P.links port) (P.returned port) (P.faults port) (P.refusals port)) C.coming)
+            self.opening self.workers (E.state result.0) result.1.items }
     {
         let Team {
             alloc: _,
             lock,
             seat,
             mut workers,
+            seats,
             members,
         } = self;
         serve_all(rt, &lock, &mut workers);
-        disband(lock, seat, workers, members)
+        let (seats, members) = part(workers, seats, members);
+        (close_joined(lock, seat, seats), members)
     }
 }
 
-// Joins all seats into the first one, closes the lock, and puts what is left of the workers into `members`, which is empty and
-// has room for it.
-fn disband<E: Executor + Drop, P: Drop, C: Drop>(
-    lock: TurnLock<E>,
-    seat: Seat<E>,
+// Parts these workers into their seats and what else is left of them, each in order. Both lists are empty, and have room for all.
+fn part<E: Executor + Drop, P: Drop, C: Drop>(
     workers: Vec<Worker<E, P, C>>,
+    seats: Vec<Seat<E>>,
     members: Vec<Member<P>>,
-) -> (E, Vec<Member<P>>)
-    requires seat { seat ≡ main_seat lock seat.opening (length workers.items) }
-    requires out { AreOut lock 1 (map (λ w. w.seat) workers.items) }
-    requires empty { members.items ≡ [] }
-    requires room { length workers.items ≤ vec_capacity members }
-    ensures closes { Closes seat.opening (map (λ w. w.seat) workers.items) (E.state result.0) }
+) -> (Vec<Seat<E>>, Vec<Member<P>>)
+    requires no_seats { seats.items ≡ [] }
+    requires no_members { members.items ≡ [] }
+    requires room { (length workers.items ≤ vec_capacity seats) × (length workers.items ≤ vec_capacity members) }
+    ensures seats { result.0.items ≡ map (λ w. w.seat) workers.items }
     ensures members { map (λ m. left m.port m.served m.end) result.1.items ≡ map (λ w. left w.port w.next w.end) workers.items }
 {
-    let mut seat = seat;
+    let mut seats = seats;
     let mut members = members;
     for worker in workers {
         let Worker {
             port,
             clock: _,
-            seat: own,
+            seat,
             state: _,
             next,
             sessions: _,
             end,
         } = worker;
-        lock.join(&mut seat, own);
+        seats.push_reserved(seat);
         members.push_reserved(Member {
             port,
             served: next,
             end,
         });
     }
-    (lock.close(seat), members)
+    (seats, members)
 }

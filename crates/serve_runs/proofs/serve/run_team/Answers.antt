@@ -8,12 +8,12 @@ use Rattle.serve_runs.proofs.serve.run_team.Goals as goal
 pub verdict_on-verdict-requires : goal.verdict_on-verdict-requires
 verdict_on-verdict-requires g c =
     let run = c.serve-executor.ensures in
-    omega (arith, ap length c.deref.ensures.value, as_many_left _ _ _ run.lock _ run.history 1 c.args.team.workers c.serve-executor.result.1.items run.each, c.requires.few)
+    omega (arith, ap length c.deref.ensures.value, as_many_left _ run.lock _ run.history 1 c.args.team.workers c.serve-executor.result.1.items run.each, c.requires.few)
 
 pub take_back-requires : goal.take_back-requires
 take_back-requires g c =
     let run = c.serve-executor.ensures in
-    omega (arith, as_many_left _ _ _ run.lock _ run.history 1 c.args.team.workers c.serve-executor.result.1.items run.each, c.requires.out)
+    omega (arith, as_many_left _ run.lock _ run.history 1 c.args.team.workers c.serve-executor.result.1.items run.each, c.requires.out)
 
 pub returns-in-PortFault : goal.returns-in-PortFault
 returns-in-PortFault g c = record {

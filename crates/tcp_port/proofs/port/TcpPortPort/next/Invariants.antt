@@ -2,4 +2,4 @@ use Rattle.std.proofs.Common.{◌≡◌}
 use Rattle.tcp_port.proofs.port.TcpPortPort.next.Given as goal
 
 abbrev pub invariant-loop : goal.invariant-loop
-invariant-loop g l = (l.self.faults ≡ l.fn.self.faults) × (l.self.refusals ≡ l.fn.self.refusals)
+invariant-loop g l = l.self.faults ≡ l.fn.self.faults
