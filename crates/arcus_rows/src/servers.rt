@@ -17,39 +17,44 @@ const SENT: &str = "set a 5 0 3|abc|get a|";
 
 const ANSWERED: &str = "STORED|VALUE a 5 3|abc|END|";
 
+const ONE_WORKER: &[&str] = &["many", "--workers", "1"];
+const TWO_WORKERS: &[&str] = &["many", "--workers=2"];
+const THREE_WORKERS: &[&str] = &["many", "--workers", "3"];
+
 #[test]
 fn scripts_are_served(rt: HostRuntime) -> Result<(), Fail> {
-    for (workers, script, output, status) in [
+    for (words, script, output, status) in [
         (
-            "1",
+            ONE_WORKER,
             "session 0\nend\n",
             "session 0 ended 0\n\n",
             Status::Done,
         ),
-        ("3", "end\n", "", Status::Done),
+        (THREE_WORKERS, "end\n", "", Status::Done),
         // In two pieces, cut within the line.
         (
-            "2",
+            TWO_WORKERS,
             "session 2\npiece 3\nget\npiece 4\n a|\nend\n",
             "session 0 ended 5\nEND|\n",
             Status::Done,
         ),
         // How single sessions end is no end of the run.
         (
-            "2",
+            TWO_WORKERS,
             "session 1\npiece 3\nget\nsession 1\npiece 6\nquit|\nend\n",
             "session 0 cut 0\n\nsession 1 quit 0\n\n",
             Status::Done,
         ),
-        ("1", "session x\n", "", Status::BadScript(0)),
-        ("1", "session 0\n", "", Status::BadScript(10)),
-        ("1", "session 0\nend\nx", "", Status::BadScript(14)),
+        (ONE_WORKER, "session x\n", "", Status::BadScript(0)),
+        (ONE_WORKER, "session 0\n", "", Status::BadScript(10)),
+        (
+            ONE_WORKER,
+            "session 0\nend\nx",
+            "",
+            Status::BadScript(14),
+        ),
     ] {
-        let words = ["many", "--workers", workers];
-        let setting = Setting {
-            words: &words,
-            ..DEFAULT
-        };
+        let setting = Setting { words, ..DEFAULT };
         expect(&rt, rt.alloc(), setting, script, output, status)?;
     }
     Ok(())
@@ -67,7 +72,7 @@ fn one_of_two_sessions_adds_the_key(rt: HostRuntime) -> Result<(), Fail> {
         "session 0 ended 12\nNOT_STORED|\nsession 1 ended 8\nSTORED|\n",
     ];
     let setting = Setting {
-        words: &["many", "--workers=2"],
+        words: TWO_WORKERS,
         ..DEFAULT
     };
     let played = run_on(&rt, alloc, setting, bytes_of(alloc, script)?)?;

@@ -129,3 +129,60 @@ fn one_session_is_served(rt: HostRuntime) -> Result<(), Fail> {
     };
     expect_run(&rt, rt.alloc(), &run)
 }
+
+const UNBOUND: Run<'static> = Run {
+    binds: &[0],
+    end: ServeEnd::PortFault,
+    output: "",
+    returned: &[],
+    ..WELL
+};
+
+// The first poller comes back as it was.
+const WITHOUT_SECOND: Run<'static> = Run {
+    hands: &[1],
+    end: ServeEnd::PortFault,
+    output: "",
+    returned: &[&[]],
+    ..WELL
+};
+
+const WITHOUT_MEMORY: Run<'static> = Run {
+    refused: &[0],
+    end: ServeEnd::NoMemory,
+    output: "",
+    returned: &[],
+    ..WELL
+};
+
+// The other worker serves its link.
+const FIRST_FAILS: Run<'static> = Run {
+    waits: &[0],
+    end: ServeEnd::PortFault,
+    output: "",
+    returned: &[&[], &[EMPTY]],
+    ..WELL
+};
+
+const UNWRITTEN: Run<'static> = Run {
+    pushes: &[0],
+    end: ServeEnd::WriteFault,
+    output: "",
+    ..WELL
+};
+
+#[test]
+fn a_server_ends_by_its_cause(rt: HostRuntime) -> Result<(), Fail> {
+    let alloc = rt.alloc();
+    for run in [
+        WELL,
+        UNBOUND,
+        WITHOUT_SECOND,
+        WITHOUT_MEMORY,
+        FIRST_FAILS,
+        UNWRITTEN,
+    ] {
+        expect_run(&rt, alloc, &run)?;
+    }
+    Ok(())
+}
