@@ -10,9 +10,13 @@ use std::marker::Model;
 /// The most bytes that one pull asks for.
 pub const PIECE_BYTES: usize = 16_384;
 
+// The most bytes that a pull asks for until one fills them. A session whose client sends short lines touches no more memory.
+const FIRST_BYTES: usize = 2_048;
+
 /// What the last pull brought and was not read yet, 16,384 bytes at most. Contracts see the list of them.
 #[derive(Drop)]
 pub struct Piece {
+    // It has memory for 16,384 bytes, and gets so many once a pull has filled it.
     buffer: Vec<u8>,
     // From the one place up to the other is still to be read.
     from: usize,
@@ -20,21 +24,23 @@ pub struct Piece {
 }
 
 impl Model for Piece {
-    ghost use Rattle.std.specs.Prelude.{List, ℕ, ◌≡◌, ◌≤◌, ◌-◌, take, drop, vec_len};
+    ghost use Rattle.std.specs.Prelude.{List, ℕ, ◌<◌, ◌≤◌, ◌-◌, take, drop, vec_len};
 
     ghost Value = { List ℕ };
 
     ghost view = { λ piece. take (piece.upto - piece.from) (drop piece.from piece.buffer.items) };
 
-    ghost invariant = { λ piece. (vec_len piece.buffer ≡ 16384) × (piece.from ≤ piece.upto) × (piece.upto ≤ 16384) };
+    ghost invariant = { λ piece. (0 < vec_len piece.buffer) × (vec_len piece.buffer ≤ 16384) × (piece.from ≤ piece.upto) × (piece.upto ≤ vec_len piece.buffer) };
 }
 
 impl Piece {
-    /// Nothing is to be read. Takes memory for 16,384 bytes. `NoMemory` comes for want of memory alone.
+    /// Nothing is to be read. Takes memory for 16,384 bytes, of which it touches 2,048 until a pull fills these. `NoMemory`
+    /// comes for want of memory alone.
     pub fn new(alloc: Global) -> Result<Piece, NoMemory>
         ensures { IfOk result (λ piece. piece ≡ []) }
     {
-        let buffer = zeros(alloc, PIECE_BYTES)?;
+        let mut buffer = Vec::with_capacity(alloc, PIECE_BYTES)?;
+        buffer.resize(FIRST_BYTES, 0)?;
         Ok(Piece {
             buffer,
             from: 0,
@@ -66,7 +72,8 @@ impl Piece {
         self.upto = 0;
     }
 
-    /// Pulls once from the link, at most so many bytes, which are to be read then. Where none came nothing is to be read.
+    /// Pulls once from the link, at most so many bytes, which are to be read then. Where none came nothing is to be read. Until
+    /// a pull has brought 2,048 bytes it asks for no more. Takes no memory.
     pub fn fill<L: Link>(&mut self, most: usize, link: &mut L) -> Pull
         requires some { 0 < most }
         requires few { most ≤ 16384 }
@@ -75,9 +82,13 @@ impl Piece {
         ensures outgoing { outgoing (L.sent link.new) (L.write_faults link.new) (L.refusals link.new)
             ≡ outgoing (L.sent link.old) (L.write_faults link.old) (L.refusals link.old) }
     {
+        if self.upto == self.buffer.len() {
+            widen(&mut self.buffer);
+        }
         self.from = 0;
         self.upto = 0;
-        let pulled = pull_front(&mut self.buffer, most, link);
+        let asked = most.min(self.buffer.len());
+        let pulled = pull_front(&mut self.buffer, asked, link);
         if let Pull::Got(count) = pulled {
             self.upto = count;
         }
@@ -97,9 +108,12 @@ fn pull_front<L: Link>(buffer: &mut [u8], most: usize, link: &mut L) -> Pull
     link.pull(&mut buffer[..most])
 }
 
-// So many bytes 0.
-fn zeros(alloc: Global, len: usize) -> Result<Vec<u8>, NoMemory>
-    ensures { IfOk result (λ bytes. vec_len bytes ≡ len) }
+// Has the buffer filled up to the most that a pull asks for. There is memory for it; where there were none it would stay.
+fn widen(buffer: &mut Vec<u8>)
+    requires some { 0 < vec_len buffer.old }
+    requires few { vec_len buffer.old ≤ 16384 }
+    ensures some { 0 < vec_len buffer.new }
+    ensures few { vec_len buffer.new ≤ 16384 }
 {
-    Ok(vec![in alloc; 0; len]?)
+    let _ = buffer.resize(PIECE_BYTES, 0);
 }
