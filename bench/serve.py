@@ -8,7 +8,8 @@ requests are written in one piece), with one worker and with two. The servers ta
 busier for a while is so for all; ratios are medians of the ratios within a run. README.md says how to read it.
 
 Sections, all where --only names none: rates (wants a quiet machine), instructions (valgrind), calls (strace, arcus alone), spread
-(how connections spread over the workers), flood (how long a client waits beside one that floods).
+(how connections spread over the workers), flood (how long a client waits beside one that floods), pipes (what an insert takes in a
+pipe of 500, and sent by itself).
 ARCUS names another program than the one that the repository built. Nothing here is a part of the gate.
 """
 
@@ -270,6 +271,43 @@ def spread(words):
     return told
 
 
+def pipes(words):
+    """User-space instructions of arcus for an insert into one of 100 lists, sent alone and in pipes."""
+    if not shutil.which("valgrind"):
+        print("\n(no valgrind: no instructions)")
+        return {}
+    print("\n### Instructions of a `lop insert` of 50 bytes in user space, one worker\n")
+    told = {}
+    for title, at_once, mark in (("alone, each answered before the next is sent", 1, b""), ("500 at once", 500, b""), ("a pipe of 500", 500, b" pipe")):
+        (less, fewer), (more, greater) = (inserts(count, at_once, mark) for count in (5_000, 20_000))
+        told[title] = (more - less) / (greater - fewer)
+        print(f"- {title}: {told[title]:,.0f}", flush=True)
+    return told
+
+
+def inserts(count, at_once, mark):
+    """All instructions of a server that so many inserts come to, so many in one piece, and their number."""
+    with tempfile.TemporaryDirectory() as folder:
+        out = os.path.join(folder, "callgrind")
+        server = Server("arcus", 1, ["valgrind", "--tool=callgrind", f"--callgrind-out-file={out}"], patience=60)
+        with socket.create_connection(("127.0.0.1", server.port)) as sock:
+            for list_number in range(100):
+                sock.sendall(b"lop create list%02d 0 0 0\r\n" % list_number)
+                read_exactly(sock, len(b"CREATED\r\n"))
+            for first in range(0, count, at_once):
+                last = first + at_once - 1
+                sock.sendall(b"".join(insert(place, mark if place < last else b"") for place in range(first, last + 1)))
+                head, tail = (b"RESPONSE %d\r\n" % at_once, b"END\r\n") if mark else (b"", b"")
+                read_exactly(sock, len(head) + at_once * len(b"STORED\r\n") + len(tail))
+        server.stop()
+        with open(out) as file:
+            return next(int(line.split()[1]) for line in file if line.startswith("totals:")), count
+
+
+def insert(place, mark):
+    return b"lop insert list%02d -1 50%s\r\n%s\r\n" % (place % 100, mark, b"v" * 50)
+
+
 def flood(words):
     """How long a client waits for each answer beside one that sends 40,000 requests at once."""
     print("\n### A client that asks beside one that floods\n")
@@ -378,7 +416,7 @@ def main():
     if not os.access(ARCUS, os.X_OK):
         sys.exit(f"{ARCUS} is not built")
     build()
-    sections = {"rates": rates, "instructions": instructions, "calls": calls, "spread": spread, "flood": flood}
+    sections = {"rates": rates, "instructions": instructions, "calls": calls, "spread": spread, "flood": flood, "pipes": pipes}
     wanted = words.only.split(",") if words.only else list(sections)
     results = {name: sections[name](words) for name in wanted}
     if words.json:

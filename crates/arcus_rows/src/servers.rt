@@ -18,7 +18,9 @@ const SENT: &str = "set a 5 0 3|abc|get a|";
 const ANSWERED: &str = "STORED|VALUE a 5 3|abc|END|";
 
 const ONE_WORKER: &[&str] = &["many", "--workers", "1"];
+
 const TWO_WORKERS: &[&str] = &["many", "--workers=2"];
+
 const THREE_WORKERS: &[&str] = &["many", "--workers", "3"];
 
 #[test]
@@ -47,12 +49,7 @@ fn scripts_are_served(rt: HostRuntime) -> Result<(), Fail> {
         ),
         (ONE_WORKER, "session x\n", "", Status::BadScript(0)),
         (ONE_WORKER, "session 0\n", "", Status::BadScript(10)),
-        (
-            ONE_WORKER,
-            "session 0\nend\nx",
-            "",
-            Status::BadScript(14),
-        ),
+        (ONE_WORKER, "session 0\nend\nx", "", Status::BadScript(14)),
     ] {
         let setting = Setting { words, ..DEFAULT };
         expect(&rt, rt.alloc(), setting, script, output, status)?;
