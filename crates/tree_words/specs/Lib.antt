@@ -1,0 +1,6 @@
+pub mod AttrGrammar
+pub mod AttrTexts
+pub mod Reading
+pub mod TreeGrammar
+pub mod TreeLines
+pub mod WorkedTreeLines
