@@ -1,5 +1,6 @@
 pub mod AttrGrammar
 pub mod AttrTexts
+pub mod Exact
 pub mod Reading
 pub mod TreeGrammar
 pub mod TreeLines

@@ -14,6 +14,7 @@
 //! | attributes of a tree that is made, `drop`, `delete` | `creations` |
 //! | the end of a line | `endings` |
 //! | names of attributes, and pairs | `attr_words` |
+//! | the law that each row is read as what it spells | `laws` |
 #![tactic(auto)]
 
 mod attr_commands;
@@ -25,6 +26,7 @@ mod counts;
 mod creations;
 mod endings;
 mod filters;
+mod laws;
 mod ranges;
 #[cfg(test)]
 mod tests;
@@ -33,3 +35,4 @@ pub mod trees;
 pub use attr_commands::AttrCommand;
 pub use attr_words::{AttrPairs, AttrWords, pair};
 pub use commands::{TreeCommand, TreeHead};
+pub use laws::rows_read_what_they_spell;
