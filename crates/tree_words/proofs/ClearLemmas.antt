@@ -1,6 +1,6 @@
 -- When the words of a row are read as the parts by which they are spelled: what may follow a part that is left out.
 use Rattle.std.proofs.Common.{◌≡◌, ℕ, Bool, true, false, if◌then◌else◌, List, [], ◌∷◌, ◌++◌, refl, sym, ap, subst, Option, Some, None, option_map, option_and_then, bytes_eq}
-use Rattle.std.specs.Prelude.{codes, ◌↔◌}
+use Rattle.std.specs.Prelude.{◌↔◌}
 use Rattle.std.proofs.lemmas.Slice.Eq.{bytes_eq-Decides}
 use Rattle.arc_core.specs.Rows.{Part, Row, one, both, perhaps, followed_by, gives, SpellsPart, Spells, part_read, row_read}
 use Rattle.line_grammar.proofs.RowLemmas.{IsClear, IsClearPart, IsOther, one-is_clear, perhaps-is_clear, row_read-from_Spells, Spells-from_row_read, Some-same}

@@ -5,14 +5,12 @@ use Rattle.arc_core.specs.declared.collections.Action.{Action}
 use Rattle.arc_core.specs.declared.filters.EflagChange.{EflagChange}
 use Rattle.arc_core.specs.declared.filters.EflagChange.TheVariants as change
 use Rattle.arc_core.specs.declared.filters.Filter.{Filter}
-use Rattle.arc_core.specs.declared.requests.Answer.{Answer}
 use Rattle.arc_core.specs.CollectionGrammar.{unreadable_word, create_word}
-use Rattle.arc_core.specs.Rows.{Part, Row, one, both, perhaps, followed_by, gives, part_read, row_read, or_left_out, at_end}
+use Rattle.arc_core.specs.Rows.{Part, Row, one, both, perhaps, followed_by, part_read, row_read, or_left_out, at_end}
 use Rattle.arc_core.specs.Words.{number_below, exptime_word}
 use Rattle.item_attrs.specs.Attributes.{tree_action_word}
 use Rattle.tree_words.specs.declared.commands.TreeCommand.{TreeCommand}
-use Rattle.tree_words.specs.declared.commands.TreeHead.{TreeHead}
-use Rattle.tree_words.specs.Reading.{values_read, filter_read, first_read, combining_read, keeping_read, changed_read, tree_attributes_part, named_args, tree_attributes_read, tree_attributes_where, tree_creation_read, insert_end_read}
+use Rattle.tree_words.specs.Reading.{values_read, filter_read, first_read, keeping_read, changed_read, tree_attributes_part, named_args, tree_attributes_read, tree_attributes_where, tree_creation_read, insert_end_read}
 use Rattle.tree_words.specs.TreeGrammar.{FilterBegin, filter_begin, filter_of, fvalues_word, values_behind, filtered, behind_or, or_else, combining_part, putting_part, combined, value_len_word, changed, tree_args_of, tree_attributes, tree_attributes_behind, tree_creation, sent_or_getrim_word}
 use Rattle.tree_words.specs.TreeLines.{said_or_plain, insert_head, ends_or_trims}
 

@@ -1,5 +1,5 @@
 -- The rows of the commands on trees. (`bop` of the ARCUS protocol; the limits are this server's own.)
-use Rattle.std.specs.Prelude.{ℕ, ◌^◌, Bool, false, List, is_some, Option, Some, None}
+use Rattle.std.specs.Prelude.{ℕ, ◌^◌, Bool, false, List, is_some, Option, None}
 use Rattle.std.specs.Option.{option_map_or}
 use Rattle.arc_core.specs.declared.bkeys.BkeyRange.{BkeyRange}
 use Rattle.arc_core.specs.declared.coll_commands.CollCommand.TheVariants as coll_command

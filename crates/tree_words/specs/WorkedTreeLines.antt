@@ -1,7 +1,6 @@
 -- Worked lines of the commands on trees that compute: the words behind a command's two, and what they spell.
 use Rattle.std.specs.Prelude.{◌≡◌, ℕ, List, [], ◌∷◌, codes, refl, true, false, Option, Some, None, pos, negsuc}
 use Rattle.hex.proofs.OnLiterals.{hex_on_literals}
-use Rattle.arc_core.specs.declared.bkeys.Bkey.{Bkey}
 use Rattle.arc_core.specs.declared.bkeys.Bkey.TheVariants.{Number, Bytes}
 use Rattle.arc_core.specs.declared.bkeys.BkeyRange.{BkeyRange}
 use Rattle.arc_core.specs.declared.coll_commands.CollCommand.TheVariants as coll_command
@@ -10,7 +9,7 @@ use Rattle.arc_core.specs.declared.collections.Action.TheVariants as action
 use Rattle.arc_core.specs.declared.collections.Kind.TheVariants as kind
 use Rattle.arc_core.specs.declared.collections.Take.TheVariants as taking
 use Rattle.arc_core.specs.declared.filters.BitOp.{BitOp}
-use Rattle.arc_core.specs.declared.filters.BitOp.TheVariants.{And, Or, Xor}
+use Rattle.arc_core.specs.declared.filters.BitOp.TheVariants.{And, Xor}
 use Rattle.arc_core.specs.declared.filters.CompOp.{CompOp}
 use Rattle.arc_core.specs.declared.filters.CompOp.TheVariants as comp
 use Rattle.arc_core.specs.declared.filters.EflagChange.TheVariants as change

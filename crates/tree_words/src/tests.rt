@@ -507,32 +507,30 @@ fn reads_lines_that_put(rt: HostRuntime) -> Result<(), Fail> {
     Ok(())
 }
 
-fn is_change(change: EflagChange, wanted: Changed) -> bool {
+fn is_change(change: &EflagChange, wanted: Changed) -> bool {
     match (change, wanted) {
         (EflagChange::Keep, Kept) => true,
         (EflagChange::Remove, Removed) => true,
         (EflagChange::Put(flag), Put(bytes)) => flag.bytes() == bytes,
         (EflagChange::Combine(place, op, operand), Combined(at, by, bytes)) => {
-            place == at && op == by && operand.bytes() == bytes
+            *place == at && *op == by && operand.bytes() == bytes
         }
         _ => false,
     }
 }
 
 fn is_update(words: &[u8], wanted: Changed, number: Option<u32>, sent: Answer) -> bool {
-    match update(WordIter::of(words)) {
-        Some(
-            TreeHead {
-                command: TreeCommand::TreeUpdate {
-                    bkey,
-                    change,
-                    len,
-                    ..
-                },
-                answer,
-            },
-        ) => {
-            is_bkey(&bkey, N(5)) && is_change(change, wanted) && len == number && answer == sent
+    let Some(TreeHead { command, answer }) = update(WordIter::of(words)) else {
+        return false;
+    };
+    match command {
+        TreeCommand::TreeUpdate {
+            bkey,
+            change,
+            len,
+            ..
+        } => {
+            is_bkey(&bkey, N(5)) && is_change(&change, wanted) && len == number && answer == sent
         }
         _ => false,
     }
@@ -593,13 +591,13 @@ fn is_get(
     counted: (u32, u32),
     taken: Take,
 ) -> bool {
-    match get(WordIter::of(words)) {
-        Some(
-            TreeHead {
-                command: TreeCommand::TreeGet { read, take, .. },
-                answer: Plain,
-            },
-        ) => { is_read(&read, ends, filter, counted) && take == taken }
+    let Some(TreeHead { command, answer }) = get(WordIter::of(words)) else {
+        return false;
+    };
+    match command {
+        TreeCommand::TreeGet { read, take, .. } => {
+            is_read(&read, ends, filter, counted) && take == taken && answer == Plain
+        }
         _ => false,
     }
 }
@@ -611,17 +609,15 @@ fn is_delete(
     sent: Answer,
 ) -> bool {
     let (ends, filter, number) = read_is;
-    match delete(WordIter::of(words)) {
-        Some(
-            TreeHead {
-                command: TreeCommand::TreeDelete {
-                    read,
-                    drop_empty,
-                    ..
-                },
-                answer,
-            },
-        ) => {
+    let Some(TreeHead { command, answer }) = delete(WordIter::of(words)) else {
+        return false;
+    };
+    match command {
+        TreeCommand::TreeDelete {
+            read,
+            drop_empty,
+            ..
+        } => {
             is_read(&read, ends, filter, (0, number)) && drop_empty == dropped && answer == sent
         }
         _ => false,
@@ -629,13 +625,13 @@ fn is_delete(
 }
 
 fn is_count(words: &[u8], ends: (At, At), wanted: Option<Where>) -> bool {
-    match count(WordIter::of(words)) {
-        Some(
-            TreeHead {
-                command: TreeCommand::TreeCount { range, filter, .. },
-                answer: Plain,
-            },
-        ) => { is_range(&range, ends.0, ends.1) && is_filter(&filter, wanted) }
+    let Some(TreeHead { command, answer }) = count(WordIter::of(words)) else {
+        return false;
+    };
+    match command {
+        TreeCommand::TreeCount { range, filter, .. } => {
+            is_range(&range, ends.0, ends.1) && is_filter(&filter, wanted) && answer == Plain
+        }
         _ => false,
     }
 }
