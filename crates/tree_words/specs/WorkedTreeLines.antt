@@ -1,4 +1,4 @@
--- Worked lines of the commands on trees that compute: the words behind a command's two, and what they spell.
+-- Worked lines of the commands on trees and on attributes that compute: the words behind a command's own, and what they spell.
 use Rattle.std.specs.Prelude.{◌≡◌, ℕ, List, [], ◌∷◌, codes, refl, true, false, Option, Some, None, pos, negsuc}
 use Rattle.hex.proofs.OnLiterals.{hex_on_literals}
 use Rattle.arc_core.specs.declared.bkeys.Bkey.TheVariants.{Number, Bytes}
@@ -23,9 +23,12 @@ use Rattle.arc_core.specs.HexText.{eflag_word, flag_words, short_bytes}
 use Rattle.arc_core.specs.KeyValueGrammar.{noreply_word}
 use Rattle.arc_core.specs.Rows.{row_read}
 use Rattle.arc_core.specs.Words.{words, key_word, number_below, exptime_word}
+use Rattle.tree_words.specs.declared.attr_commands.AttrCommand.TheVariants as attr_command
 use Rattle.tree_words.specs.declared.commands.TreeCommand.{TreeCommand}
 use Rattle.tree_words.specs.declared.commands.TreeCommand.TheVariants as command
 use Rattle.tree_words.specs.declared.commands.TreeHead.{TreeHead}
+use Rattle.tree_words.specs.AttrGrammar.{getattr_row, setattr_row}
+use Rattle.tree_words.specs.AttrTexts.{pair_word}
 use Rattle.tree_words.specs.TreeGrammar.{bkey_range_word, bitop_word, compop_word, fvalues_word, new_flag_word, sent_or_getrim_word, value_len_word}
 use Rattle.tree_words.specs.TreeLines.{tree_create_row, tree_insert_row, tree_upsert_row, tree_update_row, tree_delete_row, tree_get_row, tree_count_row, tree_arith_row}
 
@@ -215,3 +218,28 @@ counts_up_from = refl
 refuses_a_lone_flag : row_read (tree_arith_row true) (words (codes "t 5 1 0x01")) ≡ None
 unfolding tree_arith_row key_word number_below sent_word pipe_word bkey_word eflag_word short_bytes hex_on_literals
 refuses_a_lone_flag = refl
+
+-- names are any words, and there may be none
+reads_names : row_read getattr_row (words (codes "k maxcount any")) ≡ Some (attr_command.GetAttr (codes "k") (codes "maxcount" ∷ codes "any" ∷ []))
+unfolding getattr_row key_word
+reads_names = refl
+
+reads_no_names : row_read getattr_row (words (codes "k")) ≡ Some (attr_command.GetAttr (codes "k") [])
+unfolding getattr_row key_word
+reads_no_names = refl
+
+-- pairs have a `=`, the first of which counts, and there is one at least
+reads_pairs : row_read setattr_row (words (codes "k maxcount=5 a==b")) ≡ Some (attr_command.SetAttr (codes "k") (codes "maxcount=5" ∷ codes "a==b" ∷ []))
+unfolding setattr_row key_word
+reads_pairs = refl
+
+splits_at_the_first : pair_word (codes "a==b") ≡ Some (codes "a", codes "=b")
+splits_at_the_first = refl
+
+refuses_a_lone_word : row_read setattr_row (words (codes "k maxcount=5 a")) ≡ None
+unfolding setattr_row key_word
+refuses_a_lone_word = refl
+
+refuses_no_pairs : row_read setattr_row (words (codes "k")) ≡ None
+unfolding setattr_row key_word
+refuses_no_pairs = refl
