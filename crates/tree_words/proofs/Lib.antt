@@ -1,0 +1,3 @@
+pub mod ClearLemmas
+pub mod PartLemmas
+pub mod TreeRows
