@@ -1,0 +1,4 @@
+pub mod Agreement
+pub mod Kept
+pub mod TreeEntries
+pub mod WorkedKept
