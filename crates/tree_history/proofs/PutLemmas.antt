@@ -47,19 +47,21 @@ module _ (element : Elem) (all : List Elem) (edges : Edges) (rise : AreByBkey al
       let kept = filter (λ (other : Elem). stays other.bkey) all in
       let trimmed = filter (λ (other : Elem). not (stays other.bkey)) all in
       let new = settled_edges action.SmallestTrim element.bkey (stored kept trimmed) edges in
-      let bkeys = map (λ (other : Elem). other.bkey) trimmed in
-      (λ x clear. let parts = and_parts (is_above_edge new.low x.bkey) (is_below_edge new.high x.bkey) clear in
-      and_from (is_above_edge edges.low x.bkey) (is_below_edge edges.high x.bkey) (raised_over edges.low bkeys x.bkey parts.0).0 parts.1,
-      clear_of_trims (is_clear new) stays (λ bkey x. is_lt (bkey_cmp bkey x)) not_itself all
-      (λ x clear. (raised_over edges.low bkeys x.bkey (and_parts (is_above_edge new.low x.bkey) (is_below_edge new.high x.bkey) clear).0).1),
-      AllPairs-filter is_before (λ (other : Elem). stays other.bkey) all rise)
+      let bkeys = map (λ (other : Elem). other.bkey) trimmed in (
+        λ x clear. let parts = and_parts (is_above_edge new.low x.bkey) (is_below_edge new.high x.bkey) clear in
+            and_from (is_above_edge edges.low x.bkey) (is_below_edge edges.high x.bkey) (raised_over edges.low bkeys x.bkey parts.0).0 parts.1,
+        clear_of_trims (is_clear new) stays (λ bkey x. is_lt (bkey_cmp bkey x)) not_itself all
+            (λ x clear. (raised_over edges.low bkeys x.bkey (and_parts (is_above_edge new.low x.bkey) (is_below_edge new.high x.bkey) clear).0).1),
+        AllPairs-filter is_before (λ (other : Elem). stays other.bkey) all rise,
+      )
 
   low_refused : Settles action.SmallestTrim element all edges (out_of_range Low)
   low_refused =
       let new = settled_edges action.SmallestTrim element.bkey (out_of_range Low) edges in
-      let over = λ (x : Elem) (clear : is_clear new x ≡ true). raised_over edges.low (element.bkey ∷ []) x.bkey (and_parts (is_above_edge new.low x.bkey) (is_below_edge new.high x.bkey) clear).0 in
-      (λ x clear. and_from (is_above_edge edges.low x.bkey) (is_below_edge edges.high x.bkey) (over x clear).0 (and_parts (is_above_edge new.low x.bkey) (is_below_edge new.high x.bkey) clear).1,
-      λ announced others. with_low (is_clear new) element others (λ x clear. (over x clear).1.0))
+      let over = λ (x : Elem) (clear : is_clear new x ≡ true). raised_over edges.low (element.bkey ∷ []) x.bkey (and_parts (is_above_edge new.low x.bkey) (is_below_edge new.high x.bkey) clear).0 in (
+        λ x clear. and_from (is_above_edge edges.low x.bkey) (is_below_edge edges.high x.bkey) (over x clear).0 (and_parts (is_above_edge new.low x.bkey) (is_below_edge new.high x.bkey) clear).1,
+        λ announced others. with_low (is_clear new) element others (λ x clear. (over x clear).1.0),
+      )
 
   -- GREATEST ELEMENTS
 
@@ -68,19 +70,21 @@ module _ (element : Elem) (all : List Elem) (edges : Edges) (rise : AreByBkey al
       let kept = filter (λ (other : Elem). stays other.bkey) all in
       let trimmed = filter (λ (other : Elem). not (stays other.bkey)) all in
       let new = settled_edges action.LargestTrim element.bkey (stored kept trimmed) edges in
-      let bkeys = map (λ (other : Elem). other.bkey) trimmed in
-      (λ x clear. let parts = and_parts (is_above_edge new.low x.bkey) (is_below_edge new.high x.bkey) clear in
-      and_from (is_above_edge edges.low x.bkey) (is_below_edge edges.high x.bkey) parts.0 (lowered_over edges.high bkeys x.bkey parts.1).0,
-      clear_of_trims (is_clear new) stays (λ bkey x. is_lt (bkey_cmp x bkey)) not_itself all
-      (λ x clear. (lowered_over edges.high bkeys x.bkey (and_parts (is_above_edge new.low x.bkey) (is_below_edge new.high x.bkey) clear).1).1),
-      AllPairs-filter is_before (λ (other : Elem). stays other.bkey) all rise)
+      let bkeys = map (λ (other : Elem). other.bkey) trimmed in (
+        λ x clear. let parts = and_parts (is_above_edge new.low x.bkey) (is_below_edge new.high x.bkey) clear in
+            and_from (is_above_edge edges.low x.bkey) (is_below_edge edges.high x.bkey) parts.0 (lowered_over edges.high bkeys x.bkey parts.1).0,
+        clear_of_trims (is_clear new) stays (λ bkey x. is_lt (bkey_cmp x bkey)) not_itself all
+            (λ x clear. (lowered_over edges.high bkeys x.bkey (and_parts (is_above_edge new.low x.bkey) (is_below_edge new.high x.bkey) clear).1).1),
+        AllPairs-filter is_before (λ (other : Elem). stays other.bkey) all rise,
+      )
 
   high_refused : Settles action.LargestTrim element all edges (out_of_range High)
   high_refused =
       let new = settled_edges action.LargestTrim element.bkey (out_of_range High) edges in
-      let over = λ (x : Elem) (clear : is_clear new x ≡ true). lowered_over edges.high (element.bkey ∷ []) x.bkey (and_parts (is_above_edge new.low x.bkey) (is_below_edge new.high x.bkey) clear).1 in
-      (λ x clear. and_from (is_above_edge edges.low x.bkey) (is_below_edge edges.high x.bkey) (and_parts (is_above_edge new.low x.bkey) (is_below_edge new.high x.bkey) clear).0 (over x clear).0,
-      λ announced others. with_high (is_clear new) element others (λ x clear. (over x clear).1.0))
+      let over = λ (x : Elem) (clear : is_clear new x ≡ true). lowered_over edges.high (element.bkey ∷ []) x.bkey (and_parts (is_above_edge new.low x.bkey) (is_below_edge new.high x.bkey) clear).1 in (
+        λ x clear. and_from (is_above_edge edges.low x.bkey) (is_below_edge edges.high x.bkey) (and_parts (is_above_edge new.low x.bkey) (is_below_edge new.high x.bkey) clear).0 (over x clear).0,
+        λ announced others. with_high (is_clear new) element others (λ x clear. (over x clear).1.0),
+      )
 
   -- THE RULE
 

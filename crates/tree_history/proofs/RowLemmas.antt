@@ -110,15 +110,15 @@ module _ (old : Ledger) (agrees : Agrees old) where
       → (told ≡ true → (others : List Elem) → filter (is_clear new) (with_element element others) ≡ filter (is_clear new) others)
       → Agrees (ledger_with (record { elements = els; edges = new }) (with_put (if told then Some element else None) old.kept))
   refused_by element new true narrows out = record {
-        elements_rise = agrees.elements_rise;
-        kept_rise = with_rises element old.kept agrees.kept_rise;
-        clear = out refl old.kept ∙ agree_narrower (is_clear old.contents.edges) (is_clear new) old.kept els narrows agrees.clear;
-      }
+    elements_rise = agrees.elements_rise;
+    kept_rise = with_rises element old.kept agrees.kept_rise;
+    clear = out refl old.kept ∙ agree_narrower (is_clear old.contents.edges) (is_clear new) old.kept els narrows agrees.clear;
+  }
   refused_by element new false narrows out = record {
-        elements_rise = agrees.elements_rise;
-        kept_rise = agrees.kept_rise;
-        clear = agree_narrower (is_clear old.contents.edges) (is_clear new) old.kept els narrows agrees.clear;
-      }
+    elements_rise = agrees.elements_rise;
+    kept_rise = agrees.kept_rise;
+    clear = agree_narrower (is_clear old.contents.edges) (is_clear new) old.kept els narrows agrees.clear;
+  }
 
   inserted_agrees : (row : TreeRow) (element : Elem) (answer : List Elem → TreeReply) → ((trimmed : List Elem) → kept_after row (answer trimmed) old ≡ with_element element old.kept)
       → kept_after row (reply.Word word.OutOfRange) old ≡ with_put (refused_element old.attrs.action element) old.kept
