@@ -1,23 +1,20 @@
 -- The law over lists of rows.
-use Rattle.std.proofs.Common.{◌≡◌, ℕ, Bool, true, false, not, if◌then◌else◌, List, [], ◌∷◌, length, map, drop, Option, Some, None, refl, ap, sym, ◌∙◌, subst, arith}
-use Rattle.std.specs.Option.{option_map_or}
+use Rattle.std.proofs.Common.{◌≡◌, ℕ, Bool, true, false, if◌then◌else◌, List, [], ◌∷◌, length, map, drop, Option, Some, None, refl, ap, sym, ◌∙◌, subst, arith}
 use Rattle.std.proofs.lemmas.Bool.{not-true}
 use Rattle.arc_core.specs.declared.attributes.Attrs.{Attrs}
 use Rattle.arc_core.specs.declared.bkeys.BkeyRange.{BkeyRange}
 use Rattle.arc_core.specs.declared.collections.Take.TheVariants as taking
 use Rattle.arc_core.specs.declared.filters.Filter.{Filter}
 use Rattle.arc_core.specs.declared.rows.Row.{Row}
-use Rattle.arc_core.specs.declared.rows.Tail.{Tail}
 use Rattle.arc_core.specs.declared.rows.Tail.TheVariants as tail
 use Rattle.arc_core.specs.declared.trees.Elem.{Elem}
 use Rattle.arc_core.specs.declared.trees.TreeRead.{TreeRead}
 use Rattle.arc_core.specs.TreeReading.{chosen, covered_range, meets_zone, selected, take_count}
-use Rattle.tree_coll.specs.declared.replies.TreeReply.{TreeReply}
 use Rattle.tree_coll.specs.declared.replies.TreeReply.TheVariants as reply
 use Rattle.tree_coll.specs.declared.replies.TreeWord.TheVariants as word
-use Rattle.tree_coll.specs.TreeOutcomes.{Outcome, TreeContents, becomes, checked, goes, is_of_kind, refused, stays, tree_row}
-use Rattle.tree_coll.specs.TreeRows.{chosen_read, rows, tree_count, tree_get}
-use Rattle.tree_history.specs.Agreement.{Agrees, MissesNothing, is_clear}
+use Rattle.tree_coll.specs.TreeOutcomes.{Outcome, becomes, checked, goes, is_of_kind, refused, stays, tree_row}
+use Rattle.tree_coll.specs.TreeRows.{chosen_read, rows}
+use Rattle.tree_history.specs.Agreement.{Agrees, MissesNothing}
 use Rattle.tree_history.specs.Kept.{Ledger, after_entry, after_row, is_never_silent, is_silent, ledger_after, opened}
 use Rattle.tree_history.specs.TreeEntries.{TreeEntry, TreeRow, asked, made, outcome_of}
 use Rattle.tree_history.proofs.ReadLemmas.{chosen_same, selected_same}

@@ -1,9 +1,9 @@
 -- What an insert leaves agrees with the elements and the new one, clear of the edges then.
-use Rattle.std.proofs.Common.{◌≡◌, ℕ, Bool, true, false, not, ◌&&◌, ◌==◌, cond, if◌then◌else◌, List, [], ◌∷◌, length, map, fold, refl, ap, sym, ◌∙◌}
+use Rattle.std.proofs.Common.{◌≡◌, ℕ, Bool, true, false, not, ◌&&◌, ◌==◌, if◌then◌else◌, List, [], ◌∷◌, length, map, refl}
 use Rattle.std.specs.List.{filter}
 use Rattle.std.specs.Ordering.{is_lt, is_gt}
 use Rattle.std.specs.declared.cmp.Ordering.TheVariants.{Less}
-use Rattle.std.proofs.lemmas.Bool.{and_from, and_parts, cond_both}
+use Rattle.std.proofs.lemmas.Bool.{and_from, and_parts}
 use Rattle.std.proofs.lemmas.List.Kept.{AllPairs-filter}
 use Rattle.arc_core.specs.declared.bkeys.Bkey.{Bkey}
 use Rattle.arc_core.specs.declared.collections.Action.{Action}
@@ -12,7 +12,7 @@ use Rattle.arc_core.specs.declared.collections.Side.TheVariants.{Low, High}
 use Rattle.arc_core.specs.declared.trees.Edges.{Edges}
 use Rattle.arc_core.specs.declared.trees.Elem.{Elem}
 use Rattle.arc_core.specs.BkeyOrder.{bkey_cmp}
-use Rattle.arc_core.specs.Settling.{Settled, edge_above, edge_below, greatest, is_same, is_too_wide, least, lowered, out_of_range, overflowed, parted, raised, settled, settled_above, settled_below, settled_edges, settled_full, stored}
+use Rattle.arc_core.specs.Settling.{Settled, greatest, is_same, is_too_wide, least, lowered, out_of_range, overflowed, parted, raised, settled, settled_above, settled_below, settled_edges, settled_full, stored}
 use Rattle.arc_core.specs.TreeContents.{with_element}
 use Rattle.tree_history.specs.Agreement.{AreByBkey, is_above_edge, is_below_edge, is_clear}
 use Rattle.tree_history.specs.Kept.{announces, is_silent}

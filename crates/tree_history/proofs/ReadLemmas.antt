@@ -1,9 +1,9 @@
 -- What a read answers that does not meet the zone.
-use Rattle.std.proofs.Common.{◌≡◌, ℕ, zero, suc, ◌+◌, Bool, true, false, not, ◌&&◌, ◌||◌, if◌then◌else◌, List, [], ◌∷◌, length, map, take, drop, reverse, slice_get, Option, Some, None, refl, ap, sym, ◌∙◌, inl, inr}
+use Rattle.std.proofs.Common.{◌≡◌, ℕ, zero, suc, ◌+◌, Bool, true, false, not, ◌&&◌, ◌||◌, if◌then◌else◌, List, take, drop, reverse, slice_get, Option, Some, None, refl, ap, sym, ◌∙◌}
 use Rattle.std.specs.List.{filter}
 use Rattle.std.specs.Option.{option_map_or}
 use Rattle.std.specs.Ordering.{is_gt, is_lt}
-use Rattle.std.proofs.lemmas.Bool.{and_from, and_parts, both_ways, cases_Bool, not-false, not-true, or_parts}
+use Rattle.std.proofs.lemmas.Bool.{and_from, and_parts, both_ways, not-false, not-true, or_parts}
 use Rattle.std.proofs.lemmas.Cmp.{upto}
 use Rattle.arc_core.specs.declared.bkeys.Bkey.{Bkey}
 use Rattle.arc_core.specs.declared.bkeys.BkeyRange.{BkeyRange}

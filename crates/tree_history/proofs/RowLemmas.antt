@@ -1,13 +1,11 @@
 -- What a row makes of a tree and of what is kept of it agrees, where the two agreed.
-use Rattle.std.proofs.Common.{◌≡◌, ℕ, ◌^◌, ◌==◌, Bool, true, false, not, ◌&&◌, if◌then◌else◌, List, [], ◌∷◌, length, decimal, Option, Some, None, refl, ap, sym, ◌∙◌, subst}
+use Rattle.std.proofs.Common.{◌≡◌, ℕ, ◌^◌, ◌==◌, Bool, true, false, not, ◌&&◌, if◌then◌else◌, List, [], ◌∷◌, length, Option, Some, None, refl, ap, sym, ◌∙◌, subst}
 use Rattle.std.specs.List.{filter}
 use Rattle.std.specs.Option.{option_map, option_map_or}
 use Rattle.std.specs.declared.cmp.Ordering.TheVariants.{Less}
-use Rattle.std.proofs.lemmas.Bool.{cond_both, not-true}
+use Rattle.std.proofs.lemmas.Bool.{not-true}
 use Rattle.std.proofs.lemmas.List.Kept.{AllPairs-filter}
-use Rattle.arc_core.specs.declared.attributes.Attrs.{Attrs}
 use Rattle.arc_core.specs.declared.bkeys.Bkey.{Bkey}
-use Rattle.arc_core.specs.declared.collections.Action.{Action}
 use Rattle.arc_core.specs.declared.collections.Take.{Take}
 use Rattle.arc_core.specs.declared.collections.Take.TheVariants as taking
 use Rattle.arc_core.specs.declared.filters.EflagChange.{EflagChange}
@@ -27,7 +25,7 @@ use Rattle.tree_coll.specs.declared.replies.TreeReply.TheVariants as reply
 use Rattle.tree_coll.specs.declared.replies.TreeWord.TheVariants as word
 use Rattle.tree_coll.specs.TreeOutcomes.{Outcome, TreeContents, becomes, checked, found, goes, holding, is_of_kind, is_there, may_get, refused, stays, without}
 use Rattle.tree_coll.specs.TreeRows.{at_positions, around as around_reply, chosen_deleted, chosen_read, first_counted, flag_updated, found_counted, found_updated, inserted, is_nothing, left_with, may_count, new_inserted, number_before, number_counted, ordered, rows, some_read, trim_reply}
-use Rattle.tree_history.specs.Agreement.{Agrees, AreByBkey, is_clear}
+use Rattle.tree_history.specs.Agreement.{Agrees, is_clear}
 use Rattle.tree_history.specs.Kept.{Ledger, after_row, counted_element, is_never_silent, is_silent, kept_after, announces, number_element, refused_element, stored_element, updated_element, with_put}
 use Rattle.tree_history.specs.TreeEntries.{TreeRow, arith, around, by_position, count, delete, get, insert, outcome_of, position, update, upsert}
 use Rattle.tree_history.proofs.Lists.{agree_filter, agree_narrower, agree_with, with_rises}

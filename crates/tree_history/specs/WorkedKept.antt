@@ -12,12 +12,11 @@ use Rattle.arc_core.specs.declared.trees.Edges.{Edges}
 use Rattle.arc_core.specs.declared.trees.Elem.{Elem}
 use Rattle.arc_core.specs.declared.trees.TreeRead.{TreeRead}
 use Rattle.arc_core.specs.TreeReading.{chosen}
-use Rattle.tree_coll.specs.declared.replies.TreeReply.{TreeReply}
 use Rattle.tree_coll.specs.declared.replies.TreeReply.TheVariants as reply
 use Rattle.tree_coll.specs.declared.replies.TreeWord.TheVariants as word
 use Rattle.tree_coll.specs.TreeOutcomes.{Outcome, refused, stays, tree_row}
-use Rattle.tree_history.specs.Kept.{Ledger, ledger_after}
-use Rattle.tree_history.specs.TreeEntries.{TreeEntry, TreeRow, asked, delete, get, insert, made, outcome_of}
+use Rattle.tree_history.specs.Kept.{ledger_after}
+use Rattle.tree_history.specs.TreeEntries.{TreeEntry, asked, delete, get, insert, made, outcome_of}
 
 -- attributes with this maxcount, maxbkeyrange and action
 abbrev limited : (maxcount maxbkeyrange : ℕ) → Action → Attrs
