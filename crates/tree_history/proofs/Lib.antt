@@ -1,5 +1,7 @@
 pub mod EdgeLemmas
 pub mod Histories
+pub mod KindLemmas
+pub mod KindRows
 pub mod Lists
 pub mod OrderLemmas
 pub mod PutLemmas
