@@ -1,0 +1,9 @@
+pub mod EdgeLemmas
+pub mod Histories
+pub mod KindLemmas
+pub mod KindRows
+pub mod Lists
+pub mod OrderLemmas
+pub mod PutLemmas
+pub mod ReadLemmas
+pub mod RowLemmas

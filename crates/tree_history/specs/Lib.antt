@@ -1,0 +1,5 @@
+pub mod Agreement
+pub mod Kept
+pub mod TreeEntries
+pub mod TreeKinds
+pub mod WorkedKept
