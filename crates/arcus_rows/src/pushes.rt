@@ -51,10 +51,10 @@ fn a_front_was_sent(rt: HostRuntime) -> Result<(), Fail> {
     Ok(())
 }
 
-// 655 texts of 25 bytes have room, and the next one has none.
+// 655 texts of 25 bytes have room, and the next one has none. (A session pulls 2,048 bytes first, and more at once then.)
 #[test]
 fn texts_wait_up_to_16384_bytes(rt: HostRuntime) -> Result<(), Fail> {
-    let mut input = Vec::new(rt.alloc());
+    let mut input = bytes_of(rt.alloc(), "set a 0 0 2022 noreply|{2022x}|")?;
     let mut output = Vec::new(rt.alloc());
     for number in 0..1_000 {
         add_text(&mut input, "version|")?;
