@@ -144,7 +144,9 @@ fn a_session_runs_on_the_real_outside(rt: HostRuntime) -> Result<(), Fail> {
             clock: WallClock::new(&rt),
         };
         let played = play(&rt, alloc, &words, world);
-        assert_eq!(rt; played.status, status);
+        let ended = played.status;
+        drop(played);
+        assert_eq!(rt; ended, status);
         assert!(rt; output.starts_with(&sent));
     }
     Ok(())
@@ -171,7 +173,9 @@ fn a_session_ends_at_a_read_fault(rt: HostRuntime) -> Result<(), Fail> {
         clock: WallClock::new(&rt),
     };
     let played = play(&rt, alloc, &words, world);
-    assert_eq!(rt; played.status, Status::ReadFault);
+    let ended = played.status;
+    drop(played);
+    assert_eq!(rt; ended, Status::ReadFault);
     assert_eq!(rt; sent, *b"ERROR unknown command\r\n.");
     Ok(())
 }
