@@ -15,14 +15,19 @@ use std::time::Duration;
 /// The most events of one wait.
 pub(crate) const MOST_EVENTS: usize = 512;
 
+// So many times a connection is left to the worker that has the fewest. (A worker that has much to do looks often, and one that
+// has none may want a moment to wake up.)
+const MOST_DECLINES: u32 = 16;
+
 /// The token of the listener. No link is watched under it, and no guest has it as its key.
 const LISTENER: usize = usize::MAX;
 
 /// The connections of one event worker on a listener that several share, over one epoll set. It tells no links.
 ///
-/// A connection that comes is taken by the worker that has the fewest. Where that one does not take it within a
-/// millisecond another does. Where an accept fails, as where the table of descriptors is full, connections wait until one of
-/// this worker's ends, or a tenth of a second; that there is no room for one is said once on standard error.
+/// A connection that comes is taken by the worker that has the fewest. Where that one does not take it while another looks for
+/// it 16 times, a millisecond apart at most, this one does. Where an accept fails, as where the table of descriptors is full,
+/// connections wait until one of this worker's ends, or a tenth of a second; that there is no room for one is said once on
+/// standard error.
 #[derive(Drop)]
 pub struct EventPoller<R> {
     rt: R,
@@ -35,8 +40,8 @@ pub struct EventPoller<R> {
     ready: Vec<usize>,
     // Connections may be waiting.
     accepting: bool,
-    // One was left to another worker at the last wait.
-    declined: bool,
+    // At how many waits in turn one was left to another worker.
+    declines: u32,
     // The last accept failed.
     is_full: bool,
     held: u64,
@@ -67,7 +72,7 @@ impl<R: Copy> EventPoller<R> {
             notice,
             ready,
             accepting: true,
-            declined: false,
+            declines: 0,
             is_full: false,
             held: 0,
             faults: 0,
@@ -120,11 +125,11 @@ impl<R: Eprint + Copy> EventPoller<R> {
         ensures faults { self.new.faults ≡ self.old.faults }
         ensures held { self.new.held ≡ self.old.held }
     {
-        if !self.declined && !self.crowd.is_least() {
-            self.declined = true;
+        if self.declines < MOST_DECLINES && !self.crowd.is_least() {
+            self.declines += 1;
             return None;
         }
-        self.declined = false;
+        self.declines = 0;
         match accept(&self.listener) {
             Accepted::Some(stream) => Some(EventLink::new(stream)),
             Accepted::Nothing => {
